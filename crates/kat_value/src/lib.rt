@@ -1,0 +1,11 @@
+//! The types and values of a machine, and the operations on them as arithmetic on whole numbers. A declared type
+//! is known by its position in the table of types; a value is plain data, and no value holds a reference.
+#![tactic(auto)]
+
+mod op;
+mod types;
+mod value;
+
+pub use op::Op;
+pub use types::{Field, Ty, TypeDecl, Types};
+pub use value::{Value, Values};
