@@ -1,7 +1,7 @@
 -- The operations, as arithmetic on whole numbers.
-use Rattle.std.specs.Prelude.{ℕ, Bool, ◌+◌, ◌%◌, ◌^◌, ◌==◌, ◌&&◌, nat_lt, nat_le, if◌then◌else◌, List, [], ◌∷◌, Option, Some, None}
+use Rattle.std.specs.Prelude.{ℕ, Bool, ◌^◌, ◌==◌, ◌&&◌, nat_lt, nat_le, if◌then◌else◌, Option, Some, None}
 use Rattle.kat_value.specs.declared.value.Value.{Value}
-use Rattle.kat_value.specs.declared.value.Value.TheVariants.{Unit, Bool as Truth, Bits}
+use Rattle.kat_value.specs.declared.value.Value.TheVariants.{Bits}
 
 -- whether n is a number of bits(w), w being a width
 abbrev pub is_number : ℕ → ℕ → Bool
