@@ -2,12 +2,14 @@
 //! is known by its position in the table of types; a value is plain data, and no value holds a reference.
 #![tactic(auto)]
 
+mod arithmetic;
 mod copy;
 mod equality;
 mod op;
 mod types;
 mod value;
 
+pub use arithmetic::apply;
 pub use copy::copy_value;
 pub use equality::same_value;
 pub use op::Op;
