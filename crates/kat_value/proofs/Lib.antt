@@ -1,2 +1,3 @@
 pub mod EqualityLemmas
 pub mod NumberLemmas
+pub mod TypingLemmas

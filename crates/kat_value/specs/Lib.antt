@@ -1,3 +1,4 @@
 pub mod Equality
 pub mod Numbers
 pub mod Operations
+pub mod Typing

@@ -7,6 +7,7 @@ mod copy;
 mod equality;
 mod op;
 mod types;
+mod typing;
 mod value;
 
 pub use arithmetic::apply;
@@ -14,4 +15,5 @@ pub use copy::copy_value;
 pub use equality::same_value;
 pub use op::Op;
 pub use types::{Field, Ty, TypeDecl, Types};
+pub use typing::fits;
 pub use value::{Value, Values};
