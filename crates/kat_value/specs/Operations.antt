@@ -1,7 +1,11 @@
--- The operations, as arithmetic on whole numbers.
-use Rattle.std.specs.Prelude.{ℕ, Bool, ◌^◌, ◌==◌, ◌&&◌, nat_lt, nat_le, if◌then◌else◌, Option, Some, None}
+-- The operations on values.
+use Rattle.std.specs.Prelude.{ℕ, Bool, ◌^◌, ◌==◌, ◌&&◌, nat_lt, nat_le, if◌then◌else◌, List, [], ◌∷◌, Option, Some, None}
+use Rattle.kat_value.specs.Equality.{value_eq}
+use Rattle.kat_value.specs.Numbers.{number_of_op}
+use Rattle.kat_value.specs.declared.op.Op.{Op}
+use Rattle.kat_value.specs.declared.op.Op.TheVariants.{Eq, Ult, Add}
 use Rattle.kat_value.specs.declared.value.Value.{Value}
-use Rattle.kat_value.specs.declared.value.Value.TheVariants.{Bits}
+use Rattle.kat_value.specs.declared.value.Value.TheVariants.{Bool as Truth, Bits}
 
 -- whether n is a number of bits(w), w being a width
 abbrev pub is_number : ℕ → ℕ → Bool
@@ -11,3 +15,17 @@ is_number w n = nat_le 1 w && (nat_le w 64 && nat_lt n (2 ^ w))
 abbrev pub of_numbers : (ℕ → ℕ → ℕ → Value) → Value → Value → Option Value
 of_numbers f (Bits w a) (Bits v b) = if (w == v) && (is_number w a && is_number w b) then Some (f w a b) else None
 of_numbers f _ _ = None
+
+-- what an operation gives on two values; none where they are not of types that it takes
+abbrev pub value_of_two : Op → Value → Value → Option Value
+value_of_two Eq a b = Some (Truth (value_eq a b))
+value_of_two Ult a b = of_numbers (λ w m n. Truth (nat_lt m n)) a b
+value_of_two Add a b = of_numbers (λ w m n. Bits w (number_of_op Add w m n)) a b
+value_of_two _ a b = None
+
+-- what an operation gives on values; none where they are not as many, or not of types that it takes
+abbrev pub value_of_op : Op → List Value → Option Value
+value_of_op op [] = None
+value_of_op op (a ∷ []) = None
+value_of_op op (a ∷ b ∷ []) = value_of_two op a b
+value_of_op op (a ∷ b ∷ c ∷ rest) = None

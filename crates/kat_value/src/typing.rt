@@ -2,6 +2,7 @@
 
 ghost use Rattle.std.specs.Prelude.{◌≡◌, ◌↔◌, ◌^◌, IsTrue, nat_lt};
 ghost use Rattle.std.specs.Option.{option_copied};
+ghost use Rattle.kat_value.specs.Operations.{is_number};
 ghost use Rattle.kat_value.specs.Typing.{member_count, ctor_at, fields_at, has_type, have_types, HasType};
 
 use crate::types::{Field, Ty, TypeDecl, Types};
@@ -62,6 +63,13 @@ fn fits_width(width: u32, number: u64) -> bool
     ensures { result ≡ nat_lt number (2 ^ width) }
 {
     number.unbounded_shr(width) == 0
+}
+
+/// Whether this is a width, and the number one of that many bits.
+pub fn is_number(width: u32, number: u64) -> bool
+    ensures { result ≡ is_number width number }
+{
+    1 <= width && width <= 64 && fits_width(width, number)
 }
 
 /// How many members the enum at this position has; 0 where none is there.
