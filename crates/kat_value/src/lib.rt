@@ -7,6 +7,8 @@ mod copy;
 mod equality;
 mod op;
 mod operate;
+#[cfg(test)]
+mod tests;
 mod types;
 mod typing;
 mod value;
