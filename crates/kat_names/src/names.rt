@@ -49,7 +49,7 @@ impl Model for Table {
 const MOST_NAMES: usize = 1 << 32;
 
 impl Table {
-    /// A table with no names. It takes memory only when a name is added.
+    /// A table with no names. No memory is taken before a name is added, so this is always `Ok`.
     pub fn new(alloc: Global) -> Result<Table, AllocError>
         ensures { result ≡ Ok [] }
     {
@@ -68,8 +68,8 @@ impl Table {
 
     /// Adds a name behind the others, and gives its position.
     ///
-    /// `Twice` comes exactly where the name stands already, with its position. `Memory` comes only for a new name.
-    /// After either the table is as it was.
+    /// `Twice` comes exactly where the name stands already, with its position, and `Memory` only for a new
+    /// name. After either the table is as it was.
     pub fn add(&mut self, name: &str) -> Result<u32, NameError>
         requires { length self.old < 2 ^ 32 }
 
@@ -91,7 +91,7 @@ impl Table {
         Ok(position)
     }
 
-    /// The position of a name, or `Unknown` exactly where it does not stand in the table. It takes no memory.
+    /// The position of a name, or `Unknown` exactly where it does not stand in the table. Takes no memory.
     pub fn find(&self, name: &str) -> Result<u32, Unknown>
         ensures found { (i : ℕ) → (result ≡ Ok i) ↔ (slice_get self.now i ≡ Some name.now) }
         ensures unknown { IsErr result ↔ ¬ Contains self.now name.now }
