@@ -1,5 +1,5 @@
 -- Where a name stands in a list of names that differ, and what one more name does to the list.
-use Rattle.std.proofs.Common.{◌≡◌, ◌≢◌, ℕ, ◌+◌, ◌^◌, ◌<◌, ◌↔◌, Bool, false, cond, not, if◌then◌else◌, List, [], ◌∷◌, ◌++◌, map, length, get_or, slice_get, position, Option, None, Some, IsNone, Contains, Global, String, refl, sym, ap, subst, ◌∙◌, arith, true≢false, length-append}
+use Rattle.std.proofs.Common.{◌≡◌, ◌≢◌, ℕ, ◌+◌, ◌^◌, ◌<◌, ◌↔◌, Bool, false, cond, not, if◌then◌else◌, List, [], ◌∷◌, ◌++◌, map, length, get_or, slice_get, position, Option, None, Some, IsSome, Contains, Global, String, refl, sym, ap, subst, ◌∙◌, arith, true≢false, length-append}
 use Rattle.std.proofs.lemmas.Bool.Decides.{nat_tests}
 use Rattle.std.proofs.lemmas.List.{length-map, map-append}
 use Rattle.std.proofs.lemmas.List.Folds.{list_any_none}
@@ -52,7 +52,7 @@ one_position names name i j differ at_i at_j =
 pub record IsPositionOf (names : List (List ℕ)) (name : List ℕ) (answer : Option ℕ) : Type 0 where
   pub position : answer ≡ position_of names name
   pub found : (i : ℕ) → (answer ≡ Some i) ↔ (slice_get names i ≡ Some name)
-  pub unknown : IsNone answer ↔ ¬ Contains names name
+  pub known : IsSome answer ↔ Contains names name
 
 found_from_place : (names : List (List ℕ)) (name : List ℕ) (answer : Option ℕ) → AllDiffer names → answer ≡ position_of names name
     → (i : ℕ) → slice_get names i ≡ Some name → answer ≡ Some i
@@ -60,16 +60,14 @@ found_from_place names name None differ is i at = absurd (stands_nowhere names n
 found_from_place names name (Some first) differ is i at =
     ap (λ n. Some n) (one_position names name first i differ (stands_at_position names name first (sym is)) at)
 
-unknown_from_position : (names : List (List ℕ)) (name : List ℕ) (answer : Option ℕ) → answer ≡ position_of names name → IsNone answer ↔ ¬ Contains names name
-unknown_from_position names name None is = (
-  λ _ there. stands_nowhere names name there.0 (sym is) (slice_get-get_or names there.0 name there.1 ∙ ap (λ n. Some n) there.2),
-  λ _. refl,
+known_from_position : (names : List (List ℕ)) (name : List ℕ) (answer : Option ℕ) → answer ≡ position_of names name → IsSome answer ↔ Contains names name
+known_from_position names name None is = (
+  λ some. absurd (true≢false (sym some)),
+  λ there. absurd (stands_nowhere names name there.0 (sym is) (slice_get-get_or names there.0 name there.1 ∙ ap (λ n. Some n) there.2)),
 )
-unknown_from_position names name (Some i) is =
-    let at = stands_at_position names name i (sym is) in (
-      λ none. absurd (true≢false none),
-      λ lacks. absurd (lacks (i, slice_get_within names i name at, get_or_from_slice_get names i name name at)),
-    )
+known_from_position names name (Some i) is =
+    let at = stands_at_position names name i (sym is) in
+    (λ _. (i, slice_get_within names i name at, get_or_from_slice_get names i name name at), λ _. refl)
 
 -- a look-up among the keys of a table answers the position of the name
 pub position_of-keys : (keys : List (String Global)) (names : List (List ℕ)) (name : List ℕ) (answer : Option ℕ)
@@ -79,7 +77,7 @@ position_of-keys keys names name answer view_is differ looked_up =
     record {
       position = is;
       found = λ i. (λ e. stands_at_position names name i (sym is ∙ e), found_from_place names name answer (subst AllDiffer view_is differ) is i);
-      unknown = unknown_from_position names name answer is;
+      known = known_from_position names name answer is;
     }
 
 -- a table with one more name, which did not stand in it, is a table

@@ -1,5 +1,5 @@
 //! The table of names, and why it refuses one.
-ghost use Rattle.std.specs.Prelude.{◌≡◌, ◌^◌, ◌<◌, ◌≤◌, ◌↔◌, [], ◌∷◌, ◌++◌, ℕ, length, slice_get, Contains, IsErr, IsNone, IsTrue, IfOk, OnOk, OnErr};
+ghost use Rattle.std.specs.Prelude.{◌≡◌, ◌^◌, ◌<◌, ◌≤◌, ◌↔◌, [], ◌∷◌, ◌++◌, ℕ, length, slice_get, Contains, IsSome, IsOk, IsTrue, IfOk, OnOk, OnErr};
 ghost use Rattle.std.specs.Result.{result_ok};
 ghost use Rattle.kat_names.specs.Names.{position_of, AllDiffer};
 ghost use Rattle.kat_names.specs.NameError.{twice_of};
@@ -94,7 +94,7 @@ impl Table {
     /// The position of a name, or `Unknown` exactly where it does not stand in the table. Takes no memory.
     pub fn find(&self, name: &str) -> Result<u32, Unknown>
         ensures found { (i : ℕ) → (result ≡ Ok i) ↔ (slice_get self.now i ≡ Some name.now) }
-        ensures unknown { IsErr result ↔ ¬ Contains self.now name.now }
+        ensures known { IsOk result ↔ Contains self.now name.now }
         ensures position { result_ok result ≡ position_of self.now name.now }
         ensures distinct { AllDiffer self.now }
     {
@@ -105,7 +105,7 @@ impl Table {
     fn position_of(&self, name: &str) -> Option<u32>
         ensures position { result ≡ position_of self.now name.now }
         ensures found { (i : ℕ) → (result ≡ Some i) ↔ (slice_get self.now i ≡ Some name.now) }
-        ensures unknown { IsNone result ↔ ¬ Contains self.now name.now }
+        ensures known { IsSome result ↔ Contains self.now name.now }
         ensures distinct { AllDiffer self.now }
     {
         let position = self.names.get_index_of(name)?;
