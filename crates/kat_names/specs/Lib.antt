@@ -1,0 +1,2 @@
+pub mod NameError
+pub mod Names
