@@ -1,0 +1,5 @@
+pub mod Contents
+pub mod Counts
+pub mod ReadErrors
+pub mod Reads
+pub mod SinkErrors
