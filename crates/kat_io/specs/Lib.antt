@@ -1,5 +1,7 @@
 pub mod Contents
 pub mod Counts
+pub mod FilesInMemory
 pub mod ReadErrors
 pub mod Reads
 pub mod SinkErrors
+pub mod SinkInMemory

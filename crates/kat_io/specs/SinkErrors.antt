@@ -1,5 +1,5 @@
 -- When each error of a write comes.
-use Rattle.std.specs.Prelude.{⊤}
+use Rattle.std.specs.Prelude.{◌≡◌, Result, Ok, Err, ⊤}
 use Rattle.kat_io.specs.declared.writing.SinkError.{SinkError}
 use Rattle.kat_io.specs.declared.writing.SinkError.TheVariants.{Failed, Memory}
 
@@ -7,3 +7,9 @@ use Rattle.kat_io.specs.declared.writing.SinkError.TheVariants.{Failed, Memory}
 abbrev pub IfWriteFailed : SinkError → Type 0 → Type 0
 IfWriteFailed Failed P = P
 IfWriteFailed Memory P = ⊤
+
+-- the write gives this answer, unless memory ran out
+abbrev pub Answers : {T : Type 0} → Result T SinkError → Result T SinkError → Type 0
+Answers (Ok done) wanted = wanted ≡ Ok done
+Answers (Err Failed) wanted = wanted ≡ Err Failed
+Answers (Err Memory) wanted = ⊤

@@ -4,9 +4,10 @@
 #![tactic(auto)]
 
 mod memory;
+mod read_log;
 mod reading;
 mod writing;
 
-pub use memory::{MemorySink, Named};
+pub use memory::{MemoryFiles, MemorySink, Named};
 pub use reading::{Files, ReadError};
 pub use writing::{Sink, SinkError};

@@ -13,7 +13,7 @@ pub enum ReadError {
     #[error("the file cannot be read")]
     Failed,
     /// The file has more bytes than the limit; the value is how many were taken, which is the limit and one.
-    #[error("the file has more than {0} bytes less one")]
+    #[error("the file is too long: {0} bytes were taken")]
     TooLong(u64),
     #[error("out of memory")]
     Memory,
