@@ -3,11 +3,13 @@
 //! has both over lists, for tests and examples; `host` has them over the runtime's files and a std writer.
 #![tactic(auto)]
 
+mod host;
 mod memory;
 mod read_log;
 mod reading;
 mod writing;
 
+pub use host::{HostFiles, HostSink};
 pub use memory::{MemoryFiles, MemorySink, Named};
 pub use reading::{Files, ReadError};
 pub use writing::{Sink, SinkError};
