@@ -7,6 +7,8 @@ mod host;
 mod memory;
 mod read_log;
 mod reading;
+#[cfg(test)]
+mod tests;
 mod writing;
 
 pub use host::{HostFiles, HostSink};
