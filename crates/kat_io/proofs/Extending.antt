@@ -1,7 +1,6 @@
 -- A vector that gains pieces at its end.
-use Rattle.std.proofs.Common.{ℕ, ◌≡◌, ◌+◌, ◌≤◌, List, ◌++◌, length, take, drop, None, sym, ap, ◌∙◌, arith, length-drop}
+use Rattle.std.proofs.Common.{ℕ, ◌+◌, ◌≤◌, List, ◌++◌, length, take, drop, None, sym, ap, ◌∙◌, arith, length-drop}
 use Rattle.std.proofs.lemmas.List.{take-append-drop, take-take}
-use Rattle.std.proofs.lemmas.Grind.{common_steps}
 use Rattle.kat_io.specs.HostReads.{Extends}
 use Rattle.kat_io.specs.Reads.{Appends}
 
