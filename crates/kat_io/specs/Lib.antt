@@ -1,7 +1,7 @@
 pub mod Contents
 pub mod Counts
 pub mod FilesInMemory
-pub mod HostReads
+pub mod HostBytes
 pub mod ReadErrors
 pub mod Reads
 pub mod SinkErrors

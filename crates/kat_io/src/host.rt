@@ -1,7 +1,9 @@
 //! The runtime's files, and a sink over a std writer. Neither tells what bytes it has.
 ghost use Rattle.std.specs.Prelude.{◌≡◌, ◌≤◌, ◌<◌, ◌+◌, ◌-◌, ◌^◌, ℕ, List, [], Option, None, OnOk, OnErr, IfOk, IfErr, length, take};
+ghost use Rattle.std.specs.Io.KnownBytes.{IsAtEnd};
+ghost use Rattle.std.specs.Io.KnownBytes.{Appends as Gains};
 ghost use Rattle.kat_io.specs.Counts.{Rose};
-ghost use Rattle.kat_io.specs.HostReads.{Extends};
+ghost use Rattle.kat_io.specs.HostBytes.{Takes};
 ghost use Rattle.kat_io.specs.Reads.{Appends};
 ghost use Rattle.kat_io.specs.ReadErrors.{IfTooLong, WentPast};
 ghost use Rattle.kat_io.specs.SinkErrors.{IfWriteFailed};
@@ -17,17 +19,17 @@ const PIECE_LEN: usize = 8192;
 
 /// Appends bytes of the reader, `room` at most, and answers how many; none is its end.
 fn append_piece<R: Read>(file: &mut R, room: u64, into: &mut Vec<u8>) -> Result<u64, ReadError>
-    ensures appends { IfOk result (Extends into.old.items into.new.items) }
+    ensures takes { IfOk result (Takes (R.remaining file.old) (R.remaining file.new) into.old.items into.new.items) }
+    ensures end { IfOk result (λ count. count ≡ 0 → 0 < room → IsAtEnd (R.remaining file.new)) }
     ensures bound { IfOk result (λ count. count ≤ room) }
     ensures never_too_long { IfErr result (λ e. IfTooLong e (λ _. ⊥)) }
     ensures err { OnErr result (into.new.items ≡ into.old.items) }
 {
     let mut piece = [0u8; PIECE_LEN];
     let wanted = room.min(PIECE_LEN as u64) as usize;
-    let count = file
-        .read(&mut piece[..wanted])
-        .map_err(|_| ReadError::Failed)?;
-    into.extend_from_slice(&piece[..count])
+    let buf = &mut piece[..wanted];
+    let count = file.read(buf).map_err(|_| ReadError::Failed)?;
+    into.extend_from_slice(&buf[..count])
         .map_err(|_| ReadError::Memory)?;
     Ok(count as u64)
 }
@@ -36,8 +38,8 @@ fn append_piece<R: Read>(file: &mut R, room: u64, into: &mut Vec<u8>) -> Result<
 fn append_through<R: Read>(file: &mut R, limit: u64, into: &mut Vec<u8>) -> Result<(), ReadError>
     requires { limit < 2 ^ 64 - 1 }
     ensures kept { take (length into.old.items) into.new.items ≡ into.old.items }
-    ensures ok { OnOk result (Appends None limit into.old.items into.new.items) }
-    ensures too_long { IfErr result (λ e. IfTooLong e (WentPast None limit)) }
+    ensures ok { OnOk result (Appends (R.remaining file.old) limit into.old.items into.new.items) }
+    ensures too_long { IfErr result (λ e. IfTooLong e (WentPast (R.remaining file.old) limit)) }
 {
     let mut taken = 0;
     while taken <= limit {
@@ -124,7 +126,9 @@ impl<W: Write> HostSink<W> {
 }
 
 /// Writes the whole piece, some bytes a turn. A writer that takes none has failed.
-fn write_through<W: Write>(writer: &mut W, piece: &[u8]) -> Result<(), SinkError> {
+fn write_through<W: Write>(writer: &mut W, piece: &[u8]) -> Result<(), SinkError>
+    ensures { OnOk result (Gains (W.contents writer.old) (W.contents writer.new) piece.now) }
+{
     let mut at = 0;
     while at < piece.len() {
         match writer.write(&piece[at..]) {
