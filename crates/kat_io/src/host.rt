@@ -3,7 +3,9 @@ ghost use Rattle.std.specs.Prelude.{◌≡◌, ◌≤◌, ◌<◌, ◌+◌, ◌-
 ghost use Rattle.std.specs.Io.KnownBytes.{IsAtEnd};
 ghost use Rattle.std.specs.Io.KnownBytes.{Appends as Gains};
 ghost use Rattle.kat_io.specs.Counts.{Rose};
+ghost use Rattle.kat_io.specs.Contents.{with_bytes, Grew};
 ghost use Rattle.kat_io.specs.HostBytes.{Takes};
+ghost use Rattle.kat_io.specs.HostSinks.{writer_of, faults_of};
 ghost use Rattle.kat_io.specs.Reads.{Appends};
 ghost use Rattle.kat_io.specs.ReadErrors.{IfTooLong, WentPast};
 ghost use Rattle.kat_io.specs.SinkErrors.{IfWriteFailed};
@@ -73,7 +75,8 @@ fn append_file<R: rt::Files>(
     answer
 }
 
-/// The files of a runtime, such as the `HostRuntime` that `main` is given.
+/// The files of a runtime, such as the `HostRuntime` that `main` is given. An error of the host, also a call
+/// that a signal interrupted, is a fault.
 #[derive(Drop)]
 pub struct HostFiles<R> {
     rt: R,
@@ -119,7 +122,8 @@ pub struct HostSink<W> {
 
 impl<W: Write> HostSink<W> {
     pub fn new(writer: W) -> HostSink<W>
-        ensures { ⟦<HostSink<W> as Sink>⟧.faults result ≡ 0 }
+        ensures writer { writer_of result ≡ writer }
+        ensures faults { ⟦<HostSink<W> as Sink>⟧.faults result ≡ 0 }
     {
         HostSink { writer, faults: 0 }
     }
@@ -142,9 +146,17 @@ fn write_through<W: Write>(writer: &mut W, piece: &[u8]) -> Result<(), SinkError
 impl<W: Write> Sink for HostSink<W> {
     ghost contents = { λ _. None };
 
-    ghost faults = { λ s. s.faults };
+    ghost faults = { faults_of };
 
-    fn write_all(&mut self, piece: &[u8]) -> Result<(), SinkError> {
+    fn write_all(&mut self, piece: &[u8]) -> Result<(), SinkError>
+        ensures faults { faults_of self.old ≤ faults_of self.new }
+        ensures ok { OnOk result (None ≡ with_bytes None piece.now) }
+        ensures failed { IfErr result (λ e. IfWriteFailed e (Rose (faults_of self.old) (faults_of self.new))) }
+        ensures err { OnErr result (Grew None None piece.now) }
+
+        // The writer has the whole piece, where what it holds is known.
+        ensures written { OnOk result (Gains (W.contents (writer_of self.old)) (W.contents (writer_of self.new)) piece.now) }
+    {
         let answer = write_through(&mut self.writer, piece);
         if answer.is_err() {
             self.faults = self.faults.saturating_add(1);
