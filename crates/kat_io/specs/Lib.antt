@@ -1,0 +1,9 @@
+pub mod Contents
+pub mod Counts
+pub mod FilesInMemory
+pub mod HostBytes
+pub mod HostSinks
+pub mod ReadErrors
+pub mod Reads
+pub mod SinkErrors
+pub mod SinkInMemory

@@ -1,0 +1,25 @@
+-- A sink that keeps what it takes.
+use Rattle.std.specs.Prelude.{ℕ, ◌+◌, ◌-◌, ◌^◌, ◌==◌, Bool, true, false, List, min, Result, Ok, Err}
+use Rattle.std.specs.List.{list_any}
+use Rattle.kat_io.specs.declared.writing.SinkError.{SinkError}
+use Rattle.kat_io.specs.declared.writing.SinkError.TheVariants.{Failed}
+
+-- what the sink took, the numbers of the writes that fail, and how many writes were made and how many of them failed
+pub record SinkState : Type 0 where
+  pub contents : List ℕ
+  pub failing : List ℕ
+  pub writes : ℕ
+  pub faults : ℕ
+
+-- the number of the next write, counted from 1; it stays at the greatest u64
+abbrev pub next_write : SinkState → ℕ
+next_write sink = min (sink.writes + 1) (2 ^ 64 - 1)
+
+-- whether the next write is one of those that fail
+abbrev pub next_write_fails : SinkState → Bool
+next_write_fails sink = list_any (λ n. n == next_write sink) sink.failing
+
+-- what a write answers, where memory lasts: whether it is one of those that fail
+abbrev pub write_answer : Bool → Result (Unit {0}) SinkError
+write_answer true = Err Failed
+write_answer false = Ok tt
