@@ -1,0 +1,64 @@
+-- The equations of the meaning, form by form.
+use Rattle.std.specs.Prelude.{◌≡◌, ℕ, ◌+◌, if◌then◌else◌, ◌∷◌, List, refl}
+use Rattle.std.proofs.Common.{ap, ◌∙◌, sym, subst, arith}
+use Rattle.kat_value.specs.declared.value.Value.{Value}
+use Rattle.kat_syntax.specs.declared.expr.Expr.{Expr}
+use Rattle.kat_syntax.specs.declared.stm.Stm.{Stm}
+use Rattle.kat_syntax.specs.declared.stm.Stm.TheOpen.{Stm-F, Ret, Let, If, Read, Write, Fail}
+use Rattle.kat_syntax.specs.declared.stm.Stm.TheViews.{out-Stm, roll-Stm}
+use Rattle.kat_syntax.specs.declared.stm.Stm.TheFolds.{map-Stm, fold-Stm, fold-roll-Stm, fold_out-Stm, ind-Stm}
+use Rattle.kat_syntax.specs.Tables.{Name}
+use Rattle.kat_syntax.specs.Trees.{trees_of_expr, stm_trees, trees_of_stm}
+use Rattle.kat_syntax.specs.Machine.{Progress}
+use Rattle.kat_syntax.specs.Meaning.{Locals, Outcome, then_do, inside, is_true, value_of_expr, Calls, Part, part_of, meaning}
+
+-- a statement as the part that it is
+abbrev pub whole : List Name → Calls → Stm → Part
+whole names calls = fold-Stm Part (part_of names calls)
+
+module _ (names : List Name) (calls : Calls) where
+  abbrev HasCount : Stm → Type 0
+  HasCount s = (whole names calls s).trees ≡ trees_of_stm s
+
+  layer_has_count : (y : Stm-F ((s : Stm) × HasCount s)) →
+      (part_of names calls (map-Stm Stm Part (whole names calls) (map-Stm ((s : Stm) × HasCount s) Stm (λ e. e.0) y))).trees
+      ≡ stm_trees (map-Stm Stm ℕ trees_of_stm (map-Stm ((s : Stm) × HasCount s) Stm (λ e. e.0) y))
+  layer_has_count (Ret e) = refl
+  layer_has_count (Let x a b) = omega (arith, a.1, b.1)
+  layer_has_count (If e a b) = omega (arith, a.1, b.1)
+  layer_has_count (Read r) = refl
+  layer_has_count (Write r e) = refl
+  layer_has_count Fail = refl
+
+  -- a part's count is that of its trees
+  pub trees_of_part : (s : Stm) → (whole names calls s).trees ≡ trees_of_stm s
+  trees_of_part = ind-Stm HasCount (λ x y is.
+      ap (λ (p : Part). p.trees) (fold-roll-Stm Part (part_of names calls) x)
+      ∙ subst (λ z. (part_of names calls (map-Stm Stm Part (whole names calls) z)).trees ≡ stm_trees (map-Stm Stm ℕ trees_of_stm z)) is (layer_has_count y)
+      ∙ sym (fold-roll-Stm ℕ stm_trees x))
+
+  -- a statement does what its layer does with the parts
+  pub meaning_out : (s : Stm) → meaning names calls s ≡ (part_of names calls (map-Stm Stm Part (whole names calls) (out-Stm s))).does
+  meaning_out s = ap (λ (p : Part). p.does) (fold_out-Stm Part (part_of names calls) s)
+
+  pub meaning_let : (s : Stm) (x : Name) (first second : Stm) → out-Stm s ≡ Let x first second → (locals : Locals) (progress : Progress) →
+      meaning names calls s locals progress
+      ≡ then_do (inside 3 (meaning names calls first locals progress))
+      (λ value next. inside (3 + trees_of_stm first) (meaning names calls second ((x, value) ∷ locals) next))
+  meaning_let s x first second is locals progress =
+      ap (λ (d : Locals → Progress → Outcome). d locals progress) (meaning_out s)
+      ∙ ap (λ (z : Stm-F Stm). (part_of names calls (map-Stm Stm Part (whole names calls) z)).does locals progress) is
+      ∙ ap (λ (n : ℕ). then_do (inside 3 (meaning names calls first locals progress))
+      (λ value next. inside (3 + n) (meaning names calls second ((x, value) ∷ locals) next))) (trees_of_part first)
+
+  pub meaning_if : (s : Stm) (test : Expr) (first second : Stm) → out-Stm s ≡ If test first second → (locals : Locals) (progress : Progress) →
+      meaning names calls s locals progress
+      ≡ (if is_true (value_of_expr test locals)
+      then inside (2 + trees_of_expr test) (meaning names calls first locals progress)
+      else inside (2 + trees_of_expr test + trees_of_stm first) (meaning names calls second locals progress))
+  meaning_if s test first second is locals progress =
+      ap (λ (d : Locals → Progress → Outcome). d locals progress) (meaning_out s)
+      ∙ ap (λ (z : Stm-F Stm). (part_of names calls (map-Stm Stm Part (whole names calls) z)).does locals progress) is
+      ∙ ap (λ (n : ℕ). if is_true (value_of_expr test locals)
+      then inside (2 + trees_of_expr test) (meaning names calls first locals progress)
+      else inside (2 + trees_of_expr test + n) (meaning names calls second locals progress)) (trees_of_part first)
