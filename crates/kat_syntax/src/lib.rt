@@ -9,7 +9,7 @@ mod expr;
 mod place;
 mod stm;
 
-pub use count::{count_decl, count_expr, count_stm};
+pub use count::{count_decl, count_expr, count_params, count_stm, count_type};
 pub use decl::{Decl, Param, RegisterKind, Spec, TypeName};
 pub use expr::Expr;
 pub use kat_value::Op;

@@ -19,5 +19,5 @@ pub use equality::same_value;
 pub use op::Op;
 pub use operate::operate_on_two;
 pub use types::{Field, Ty, TypeDecl, Types};
-pub use typing::fits;
+pub use typing::{fits, is_number};
 pub use value::{Value, Values};

@@ -1,0 +1,27 @@
+-- What the tables of a specification say.
+use Rattle.std.specs.Prelude.{◌≡◌, ◌<◌, ◌^◌, ℕ, List, [], IsSome, IfSome, Option, Some, option_and_then, slice_get, unwrap_or}
+use Rattle.kat_syntax.specs.declared.decl.Spec.{Spec}
+use Rattle.kat_syntax.specs.declared.decl.Decl.{Decl}
+use Rattle.kat_syntax.specs.declared.decl.Param.{Param}
+use Rattle.kat_syntax.specs.declared.stm.Stm.{Stm}
+use Rattle.kat_syntax.specs.Tables.{Name, Function, function_at, function_from, step_of}
+use Rattle.kat_syntax.specs.Trees.{trees_of_decl}
+use Rattle.kat_syntax.specs.Cycle.{register_names}
+
+-- the function that the declaration of this number declares
+abbrev pub declared_at : List Decl → ℕ → Option Function
+declared_at decls k = option_and_then (function_at k) (slice_get decls k)
+
+-- the registers' names stand in the table, and the step function is declared at this number, in a declaration whose
+-- trees can be counted
+pub record HasTables (spec : Spec) (registers : List Name) (step : ℕ) : Type 0 where
+  pub names : registers ≡ register_names spec.decls
+  pub found : function_from 0 spec.decls (unwrap_or (step_of spec.decls) []) ≡ declared_at spec.decls step
+  pub there : IsSome (declared_at spec.decls step)
+  pub small : IfSome (slice_get spec.decls step) (λ decl. trees_of_decl decl < 2 ^ 32)
+  pub number : step < 2 ^ 32
+
+-- the step function is declared at this number, and this body stands in the declaration at this tree
+abbrev pub IsStepFunction : Spec → ℕ → Stm → ℕ → Type 0
+IsStepFunction spec decl body body_at =
+    (params : List Param) × (function_from 0 spec.decls (unwrap_or (step_of spec.decls) []) ≡ Some (record { decl = decl; params = params; body = body; body_at = body_at }))

@@ -1,0 +1,4 @@
+pub mod Checked
+pub mod Cycle
+pub mod Locals
+pub mod Running

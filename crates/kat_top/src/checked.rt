@@ -1,0 +1,100 @@
+// A specification that can be run, with its tables.
+
+ghost use Rattle.std.specs.Prelude.{◌≡◌, ◌+◌, ◌<◌, ◌^◌, IfOk};
+ghost use Rattle.kat_syntax.specs.Trees.{trees_of_stm};
+ghost use Rattle.kat_top.specs.Checked.{IsStepFunction};
+ghost use Rattle.kat_names.specs.Names.{position_of};
+ghost use Rattle.kat_syntax.specs.Meaning.{read_of, set_register};
+ghost use Rattle.kat_syntax.specs.Cycle.{register_names};
+
+use crate::state::State;
+use kat_names::Table;
+use kat_syntax::{Decl, Spec, Stm, count_params, count_type};
+use kat_text::Text;
+use kat_value::{Value, copy_value};
+use std::alloc::{AllocError, Global};
+use std::marker::Model;
+
+/// A specification whose cycles can be run: it has a step function. The table of its registers' names and the
+/// number of that function's declaration stand beside it, so that no cycle looks for them.
+#[derive(Drop)]
+pub struct Checked {
+    spec: Spec,
+    registers: Table,
+    step: usize,
+}
+
+impl Model for Checked {
+    ghost use Rattle.kat_syntax.specs.declared.decl.Spec.{Spec};
+    ghost use Rattle.kat_syntax.specs.contracts.stm.Stm as stm;
+    ghost use Rattle.std.specs.Coded.{codes};
+
+    ghost Value = { Spec };
+
+    ghost coded = { Prim.hlevel (codes, stm.the_row.coded) };
+
+    ghost use Rattle.kat_top.specs.Checked.{HasTables};
+
+    ghost view = { λ c. c.spec };
+
+    ghost invariant = { λ c. HasTables c.spec c.registers c.step };
+}
+
+impl Checked {
+    pub fn spec(&self) -> &Spec
+        ensures { result.now ≡ self.now }
+    {
+        &self.spec
+    }
+
+    /// The function that a cycle calls.
+    pub fn step_function(&self) -> StepFunction<'_>
+        ensures found { IsStepFunction self.now result.decl result.body.now result.body_at }
+        ensures small { result.body_at + trees_of_stm result.body.now < 2 ^ 32 }
+    {
+        let decl = &self.spec.decls.as_slice()[self.step];
+        match decl {
+            Decl::Fun {
+                params,
+                result,
+                body,
+                ..
+            } => StepFunction {
+                decl: self.step as u32,
+                body,
+                body_at: 3 + count_params(params.as_slice()) + count_type(result),
+            },
+            _ => unreachable!(),
+        }
+    }
+
+    /// A copy of a register's value; unit where there is no such register, which no typed text meets.
+    pub fn read(&self, alloc: Global, state: &State, register: &Text) -> Result<Value, AllocError>
+        ensures { IfOk result (λ v. v ≡ read_of (register_names self.now.decls) register.now state.now) }
+    {
+        let Ok(at) = self.registers.find(register.as_str()) else {
+            return Ok(Value::Unit);
+        };
+        match state.get(at) {
+            Some(value) => copy_value(alloc, value),
+            None => Ok(Value::Unit),
+        }
+    }
+
+    /// Sets a register, if there is one of this name.
+    pub fn write(&self, state: &mut State, register: &Text, value: Value)
+        ensures { state.new ≡ set_register (position_of (register_names self.now.decls) register.now) value state.old }
+    {
+        if let Ok(at) = self.registers.find(register.as_str()) {
+            state.set(at, value);
+        }
+    }
+}
+
+/// The step function's body, with the numbers of its declaration and of its tree there.
+#[derive(Clone, Copy, Drop)]
+pub struct StepFunction<'a> {
+    pub decl: u32,
+    pub body: &'a Stm,
+    pub body_at: u32,
+}
