@@ -17,11 +17,11 @@ pub record ReadsOn (text : List ℕ) (at : ℕ) (reader : Reader) (rest : List �
   pub same : run at reader (chars rest) ≡ run 0 start (chars text)
   pub within : at + length rest ≡ length text
 
-run-cons : (at : ℕ) (reader : Reader) (c : ℕ) (cs : List ℕ) → run at reader (c ∷ cs) ≡ (stepped at reader c >>= λ next. run (at + len_utf8 c) next cs)
+pub run-cons : (at : ℕ) (reader : Reader) (c : ℕ) (cs : List ℕ) → run at reader (c ∷ cs) ≡ (stepped at reader c >>= λ next. run (at + len_utf8 c) next cs)
 unfolding run
 run-cons at reader c cs = refl
 
-run-nil : (at : ℕ) (reader : Reader) → run at reader [] ≡ ended at reader
+pub run-nil : (at : ℕ) (reader : Reader) → run at reader [] ≡ ended at reader
 unfolding run
 run-nil at reader = refl
 

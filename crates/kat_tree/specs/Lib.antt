@@ -1,3 +1,6 @@
 pub mod Character
 pub mod Number
 pub mod Machine
+pub mod Lexeme
+pub mod Spelling
+pub mod Faults
