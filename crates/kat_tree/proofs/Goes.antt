@@ -110,7 +110,7 @@ fits-with_tree : (t : Tree) (lists : List (List Tree)) → ListsFit lists → ne
 fits-with_tree t [] fits h = omega arith
 fits-with_tree t (list ∷ outer) fits h = let n = nesting_of_all-push list t in (omega arith, fits.1)
 
-lists_fit_count : (lists : List (List Tree)) → ListsFit lists → length lists ≤ 64
+pub lists_fit_count : (lists : List (List Tree)) → ListsFit lists → length lists ≤ 64
 lists_fit_count [] fits = omega arith
 lists_fit_count (list ∷ outer) fits = let n = fits.0 in omega arith
 

@@ -79,7 +79,7 @@ unfolding marked
 begun-closing at p = begun-mark at p 41 refl refl closing-no_word
 
 -- comments
-comment_step : (at : ℕ) (p : Progress) (c : ℕ) → c ≢ 10 → stepped at (in_comment p) c ≡ Ok (in_comment p)
+pub comment_step : (at : ℕ) (p : Progress) (c : ℕ) → c ≢ 10 → stepped at (in_comment p) c ≡ Ok (in_comment p)
 comment_step at p c other = ap (λ b. Ok (record { mode = cond b Between Comment; progress = p })) (ne_eqb c 10 other)
 
 pub comment_through : (words text : List ℕ) (at : ℕ) (p : Progress) → AllByRecursion (λ c. c ≢ 10) words → run at (in_comment p) (words ++ text) ≡ run (at + size words) (in_comment p) text

@@ -5,3 +5,6 @@ pub mod Trees
 pub mod Goes
 pub mod Words
 pub mod Lexing
+pub mod Outcome
+pub mod Sound
+pub mod Exact
