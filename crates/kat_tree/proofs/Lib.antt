@@ -8,3 +8,4 @@ pub mod Lexing
 pub mod Outcome
 pub mod Sound
 pub mod Exact
+pub mod Owed

@@ -13,7 +13,7 @@ mod tree;
 mod word;
 
 pub use error::TreeError;
-pub use read::read_tree;
+pub use read::{one_outcome, one_tree, read_tree};
 pub use tree::{Token, Tree, Trees};
 
 #[cfg(test)]
