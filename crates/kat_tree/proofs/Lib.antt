@@ -9,3 +9,4 @@ pub mod Outcome
 pub mod Sound
 pub mod Exact
 pub mod Owed
+pub mod Numbers

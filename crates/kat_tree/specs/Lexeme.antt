@@ -12,7 +12,7 @@ pub data Lexeme : Type 0 where
   Leaf : (token : Token) → Lexeme
 
 -- lists one behind the other
-abbrev pub joined : List (List Lexeme) → List Lexeme
+abbrev pub joined : {A : Type 0} → List (List A) → List A
 joined [] = []
 joined (xs ∷ more) = xs ++ joined more
 

@@ -4,3 +4,4 @@ pub mod Machine
 pub mod Lexeme
 pub mod Spelling
 pub mod Faults
+pub mod Preorder

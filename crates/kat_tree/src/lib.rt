@@ -5,6 +5,7 @@
 
 mod error;
 mod number;
+mod preorder;
 mod progress;
 mod read;
 mod reader;
@@ -13,6 +14,7 @@ mod tree;
 mod word;
 
 pub use error::TreeError;
+pub use preorder::places;
 pub use read::{one_outcome, one_tree, read_tree};
 pub use tree::{Token, Tree, Trees};
 
