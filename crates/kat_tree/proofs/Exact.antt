@@ -39,30 +39,51 @@ by_end text lexemes rest at (Whole t) (Err (NotText n)) lexes offset there ends 
 by_end text lexemes rest at (Whole t) (Err (Unclosed n)) lexes offset there ends = absurd ends
 by_end text lexemes rest at (Whole t) (Err (Stray n)) lexes offset there ends =
     let done = finished lexemes t there in
-    inr (record { lexemes = lexemes; rest = rest; front = subst (λ m. Front text m lexemes rest) (sym ends.1) (front_of text at lexemes rest lexes offset);
-      finished = record { tree = t; whole = done.0; shallow = done.1 }; more = ends.0 })
+    inr (record {
+      lexemes = lexemes;
+      rest = rest;
+      front = subst (λ m. Front text m lexemes rest) (sym ends.1) (front_of text at lexemes rest lexes offset);
+      finished = record { tree = t; whole = done.0; shallow = done.1 };
+      more = ends.0;
+    })
 by_end text lexemes rest at (Whole t) (Err (BadToken n)) lexes offset there ends = absurd ends
 by_end text lexemes rest at (Whole t) (Err (Deep n)) lexes offset there ends = absurd ends
 by_end text lexemes rest at (Whole t) (Err Memory) lexes offset there ends = absurd ends
 by_end text lexemes rest at (Open lists) (Ok u) lexes offset there ends = absurd ends
 by_end text lexemes rest at (Open lists) (Err (NotText n)) lexes offset there ends = absurd ends
 by_end text lexemes rest at (Open lists) (Err (Unclosed n)) lexes offset there ends =
-    record { lexemes = lexemes;
+    record {
+      lexemes = lexemes;
       front = subst (λ m. Front text m lexemes []) (sym ends.1) (subst (λ more. Front text at lexemes more) ends.0 (front_of text at lexemes rest lexes offset));
-      unfinished = (unfinished lexemes lists there).0 }
+      unfinished = (unfinished lexemes lists there).0;
+    }
 by_end text lexemes rest at (Open lists) (Err (Stray n)) lexes offset there ends =
-    inl (record { rest = rest; closes = ends.0;
-      front = subst (λ m. Front text m [] rest) (sym ends.1.1) (subst (λ xs. Front text at xs rest) (none_yet lexemes lists there ends.1.0) (front_of text at lexemes rest lexes offset)) })
+    inl (record {
+      rest = rest;
+      closes = ends.0;
+      front = subst (λ m. Front text m [] rest) (sym ends.1.1) (subst (λ xs. Front text at xs rest) (none_yet lexemes lists there ends.1.0) (front_of text at lexemes rest lexes offset));
+    })
 by_end text lexemes rest at (Open lists) (Err (BadToken n)) lexes offset there ends =
-    record { lexemes = lexemes; rest = rest; front = subst (λ m. Front text m lexemes rest) (sym ends.1) (front_of text at lexemes rest lexes offset);
-      unfinished = (unfinished lexemes lists there).0; bad = ends.0 }
+    record {
+      lexemes = lexemes;
+      rest = rest;
+      front = subst (λ m. Front text m lexemes rest) (sym ends.1) (front_of text at lexemes rest lexes offset);
+      unfinished = (unfinished lexemes lists there).0;
+      bad = ends.0;
+    }
 by_end text lexemes rest at (Open lists) (Err (Deep n)) lexes offset there ends =
     let so_far = unfinished lexemes lists there in
     let most = so_far.1 in
     let least = ends.1.0 in
     let count = goes_count lexemes (Open []) (Open lists) there in
-    record { lexemes = lexemes; rest = rest; front = subst (λ m. Front text m lexemes rest) (sym ends.1.1) (front_of text at lexemes rest lexes offset);
-      unfinished = so_far.0; full = omega arith; opens = ends.0 }
+    record {
+      lexemes = lexemes;
+      rest = rest;
+      front = subst (λ m. Front text m lexemes rest) (sym ends.1.1) (front_of text at lexemes rest lexes offset);
+      unfinished = so_far.0;
+      full = omega arith;
+      opens = ends.0;
+    }
 by_end text lexemes rest at (Open lists) (Err Memory) lexes offset there ends = absurd ends
 
 -- what the machine answers is so

@@ -150,12 +150,12 @@ taken_tokens (Open (list ∷ outer)) q Closing e fits =
     let n = nesting-List list in
     let within = fits.0 in
     subst (Follows (Open (list ∷ outer)) Closing) (some_same (with_tree (tree.List list) outer) q e)
-      (close_tokens list outer, fits-with_tree (tree.List list) outer fits.1 (omega arith))
+    (close_tokens list outer, fits-with_tree (tree.List list) outer fits.1 (omega arith))
 taken_tokens (Open lists) q (Leaf token) e fits =
     let n = nesting-Atom token in
     let within = lists_fit_count lists fits in
     subst (Follows (Open lists) (Leaf token)) (some_same (with_tree (tree.Atom token) lists) q e)
-      (leaf_tokens token lists, fits-with_tree (tree.Atom token) lists fits (omega arith))
+    (leaf_tokens token lists, fits-with_tree (tree.Atom token) lists fits (omega arith))
 
 pub goes_tokens : (xs : List Lexeme) (p q : Progress) → goes p xs ≡ Some q → Fits p → (tokens_of q ≡ tokens_of p ++ xs) × Fits q
 goes_tokens [] p q e fits =
@@ -208,10 +208,17 @@ lists_close (list ∷ outer) t fits h =
     let bound : nesting u + length outer ≤ 64 = omega arith in
     let closed = lists_close outer u fits.1 bound in
     let e : lexemes_of u ≡ Opening ∷ ((lexemes_of_all list ++ lexemes_of t) ++ Closing ∷ []) =
-      lexemes_of-List (list ++ t ∷ []) ∙ ap (λ rest. Opening ∷ (rest ++ Closing ∷ [])) (lexemes_of_all-push list t) in
-    (Closing ∷ closed.0, (closed.1.0, (
-      regrouped (read_so_far outer) (lexemes_of_all list) (lexemes_of t) closed.0
-      ∙ ap (λ rest. (read_so_far outer ++ rest) ++ closed.0) (sym e) ∙ closed.1.1.0, closed.1.1.1)))
+    lexemes_of-List (list ++ t ∷ []) ∙ ap (λ rest. Opening ∷ (rest ++ Closing ∷ [])) (lexemes_of_all-push list t) in (
+      Closing ∷ closed.0,
+      (
+        closed.1.0,
+        (
+          regrouped (read_so_far outer) (lexemes_of_all list) (lexemes_of t) closed.0
+              ∙ ap (λ rest. (read_so_far outer ++ rest) ++ closed.0) (sym e) ∙ closed.1.1.0,
+          closed.1.1.1,
+        ),
+      ),
+    )
 
 pub cons_nil : {A : Type 0} (x : A) (xs : List A) → x ∷ xs ≡ [] → ⊥
 cons_nil x xs e = cc
@@ -226,8 +233,9 @@ open_unfinished lists fits =
       tree = closed.1.0;
       some = λ e. cons_nil (Leaf (Number 0)) closed.0 e;
       begins = sym (append_assoc (read_so_far lists) (Leaf (Number 0) ∷ []) closed.0)
-        ∙ ap (λ rest. (read_so_far lists ++ rest) ++ closed.0) (sym (lexemes_of-Atom (Number 0))) ∙ closed.1.1.0;
-      shallow = closed.1.1.1 }
+          ∙ ap (λ rest. (read_so_far lists ++ rest) ++ closed.0) (sym (lexemes_of-Atom (Number 0))) ∙ closed.1.1.0;
+      shallow = closed.1.1.1;
+    }
 
 still_open : (xs more : List Lexeme) (q end : Progress) → more ≢ [] → goes (Open []) xs ≡ Some q → goes q more ≡ Some end → (lists : List (List Tree)) × (goes (Open []) xs ≡ Some (Open lists))
 still_open xs more (Open lists) end some front rest = (lists, front)

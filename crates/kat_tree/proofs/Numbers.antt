@@ -34,8 +34,8 @@ all_itself (t ∷ parts) all = ap (λ u. u ∷ map (λ part. part.tree) (map lis
 
 itself : (t : Tree) → Itself t
 itself = tree_induction Itself
-  (λ token. ap (λ l. l.tree) (listed_of-Atom token))
-  (λ parts all. ap (λ l. l.tree) (listed_of-List parts) ∙ ap tree.List (all_itself parts all))
+    (λ token. ap (λ l. l.tree) (listed_of-Atom token))
+    (λ parts all. ap (λ l. l.tree) (listed_of-List parts) ∙ ap tree.List (all_itself parts all))
 
 every_itself : (parts : List Tree) → map (λ part. part.tree) (map listed_of parts) ≡ parts
 every_itself [] = refl
@@ -74,8 +74,8 @@ all_counted (t ∷ parts) all = let first = all.0 in omega (arith, length-append
 
 counted : (t : Tree) → Counted t
 counted = tree_induction Counted
-  (λ token. ap length (trees_of-Atom token) ∙ sym (count_of-Atom token))
-  (λ parts all. let n = ap length (trees_of-List parts) in omega (arith, all_counted parts all, count_of-List parts))
+    (λ token. ap length (trees_of-Atom token) ∙ sym (count_of-Atom token))
+    (λ parts all. let n = ap length (trees_of-List parts) in omega (arith, all_counted parts all, count_of-List parts))
 
 -- places in lists that stand one behind the other
 get_front : (xs ys : List Tree) (i : ℕ) → i < length xs → slice_get (xs ++ ys) i ≡ slice_get xs i
@@ -99,7 +99,11 @@ Stands t = (place : ℕ) (part : Tree) → tree_at t place ≡ Some part → Sta
 
 at_root : (whole : List Tree) (t part : Tree) → whole ≡ trees_of t → t ≡ part → StandsIn whole 0 part
 at_root whole t part whole_is same = record {
-  front = []; behind = []; parts = whole_is ∙ ap trees_of same ∙ sym (append-nil (trees_of part)); place_is = refl }
+  front = [];
+  behind = [];
+  parts = whole_is ∙ ap trees_of same ∙ sym (append-nil (trees_of part));
+  place_is = refl;
+}
 
 stands_atom : (token : Token) → Stands (tree.Atom token)
 stands_atom token zero part e =
@@ -109,26 +113,30 @@ stands_atom token (suc place) part e = absurd (none_some part (sym (ap (λ ts. s
 
 stands_first : (xs ys : List Tree) (place : ℕ) (part : Tree) → StandsIn xs place part → StandsIn (xs ++ ys) place part
 stands_first xs ys place part is = record {
-  front = is.front; behind = is.behind ++ ys;
+  front = is.front;
+  behind = is.behind ++ ys;
   parts = ap (λ ts. ts ++ ys) is.parts ∙ append_assoc is.front (trees_of part ++ is.behind) ys ∙ ap (λ ts. is.front ++ ts) (append_assoc (trees_of part) is.behind ys);
-  place_is = is.place_is }
+  place_is = is.place_is;
+}
 
 stands_behind : (xs ys : List Tree) (n place : ℕ) (part : Tree) → place ≡ length xs + n → StandsIn ys n part → StandsIn (xs ++ ys) place part
 stands_behind xs ys n place part place_is is = record {
-  front = xs ++ is.front; behind = is.behind;
+  front = xs ++ is.front;
+  behind = is.behind;
   parts = ap (λ ts. xs ++ ts) is.parts ∙ sym (append_assoc xs is.front (trees_of part ++ is.behind));
-  place_is = let here = is.place_is in omega (arith, length-append xs is.front) }
+  place_is = let here = is.place_is in omega (arith, length-append xs is.front);
+}
 
 stands_all : (trees : List Tree) → AllByRecursion Stands trees → (place : ℕ) (part : Tree) → slice_get (trees_of_all trees) place ≡ Some part → StandsIn (trees_of_all trees) place part
 stands_all [] all place part e = absurd (none_some part e)
 stands_all (t ∷ trees) all place part e = ⊎_elim
-  (λ less. stands_first (trees_of t) (trees_of_all trees) place part (all.0 place part (sym (get_front (trees_of t) (trees_of_all trees) place less) ∙ e)))
-  (λ past.
+    (λ less. stands_first (trees_of t) (trees_of_all trees) place part (all.0 place part (sym (get_front (trees_of t) (trees_of_all trees) place less) ∙ e)))
+    (λ past.
     let n = place - length (trees_of t) in
     let place_is : place ≡ length (trees_of t) + n = omega arith in
     stands_behind (trees_of t) (trees_of_all trees) n place part place_is
-      (stands_all trees all.1 n part (sym (get_behind (trees_of t) (trees_of_all trees) n) ∙ ap (slice_get (trees_of t ++ trees_of_all trees)) (sym place_is) ∙ e)))
-  (cases_lt place (length (trees_of t)))
+    (stands_all trees all.1 n part (sym (get_behind (trees_of t) (trees_of_all trees) n) ∙ ap (slice_get (trees_of t ++ trees_of_all trees)) (sym place_is) ∙ e)))
+    (cases_lt place (length (trees_of t)))
 
 stands_list : (trees : List Tree) → AllByRecursion Stands trees → Stands (tree.List trees)
 stands_list trees all zero part e =
@@ -138,7 +146,7 @@ stands_list trees all (suc place) part e =
     let inside = stands_all trees all place part (sym (ap (λ ts. slice_get ts (suc place)) (trees_of-List trees)) ∙ e) in
     let one : suc place ≡ 1 + place = omega arith in
     subst (λ whole. StandsIn whole (suc place) part) (sym (trees_of-List trees))
-      (stands_behind (tree.List trees ∷ []) (trees_of_all trees) place (suc place) part one inside)
+    (stands_behind (tree.List trees ∷ []) (trees_of_all trees) place (suc place) part one inside)
 
 stands : (t : Tree) → Stands t
 stands = tree_induction Stands stands_atom stands_list
@@ -146,8 +154,8 @@ stands = tree_induction Stands stands_atom stands_list
 -- the laws
 pub at_root_itself : (t : Tree) → tree_at t 0 ≡ Some t
 at_root_itself = tree_induction (λ t. tree_at t 0 ≡ Some t)
-  (λ token. ap (λ ts. slice_get ts 0) (trees_of-Atom token))
-  (λ parts all. ap (λ ts. slice_get ts 0) (trees_of-List parts))
+    (λ token. ap (λ ts. slice_get ts 0) (trees_of-Atom token))
+    (λ parts all. ap (λ ts. slice_get ts 0) (trees_of-List parts))
 
 some_within : (trees : List Tree) (place count : ℕ) → length trees ≡ count → (found : Option Tree) → slice_get trees place ≡ found → IsSome found → place < count
 some_within trees place count n None e some = absurd (false≢true some)

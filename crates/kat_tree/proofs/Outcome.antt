@@ -46,12 +46,12 @@ pub record Reaches (at : ℕ) (p : Progress) (text : List ℕ) (r : Result Tree 
 whole_word : (cs : List ℕ) (t : Tree) (at from : ℕ) (w : List ℕ) → run at (in_word from w (Whole t)) cs ≡ Err (Stray from)
 whole_word [] t at from w = run-nil at (in_word from w (Whole t))
 whole_word (c ∷ cs) t at from w = ⊎_elim
-  (λ is. run-cons at (in_word from w (Whole t)) c cs
+    (λ is. run-cons at (in_word from w (Whole t)) c cs
     ∙ ap (λ r. r >>= λ next. run (at + len_utf8 c) next cs) (cond-true (is_xid_continue c) (Ok (in_word from (w ++ c ∷ []) (Whole t))) (Err (Stray from)) is)
     ∙ whole_word cs t (at + len_utf8 c) from (w ++ c ∷ []))
-  (λ is. run-cons at (in_word from w (Whole t)) c cs
+    (λ is. run-cons at (in_word from w (Whole t)) c cs
     ∙ ap (λ r. r >>= λ next. run (at + len_utf8 c) next cs) (cond-false (is_xid_continue c) (Ok (in_word from (w ++ c ∷ []) (Whole t))) (Err (Stray from)) is))
-  (cases_Bool (is_xid_continue c))
+    (cases_Bool (is_xid_continue c))
 
 marked-Whole : (at c : ℕ) (t : Tree) → marked at (Whole t) c ≡ Err (Stray at)
 unfolding marked
@@ -66,11 +66,11 @@ marked-Open at c lists h k =
 
 pub stray_run : (c : ℕ) (cs : List ℕ) (at : ℕ) (t : Tree) → is_blank c ≡ false → c ≢ 59 → run at (between (Whole t)) (c ∷ cs) ≡ Err (Stray at)
 stray_run c cs at t no_blank no_comment = ⊎_elim
-  (λ is. run-cons at (between (Whole t)) c cs ∙ ap (λ r. r >>= λ next. run (at + len_utf8 c) next cs) (begun-word at (Whole t) c is)
+    (λ is. run-cons at (between (Whole t)) c cs ∙ ap (λ r. r >>= λ next. run (at + len_utf8 c) next cs) (begun-word at (Whole t) c is)
     ∙ whole_word cs t (at + len_utf8 c) at (c ∷ []))
-  (λ is. run-cons at (between (Whole t)) c cs ∙ ap (λ r. r >>= λ next. run (at + len_utf8 c) next cs) (begun-mark at (Whole t) c no_blank (ne_eqb c 59 no_comment) is)
+    (λ is. run-cons at (between (Whole t)) c cs ∙ ap (λ r. r >>= λ next. run (at + len_utf8 c) next cs) (begun-mark at (Whole t) c no_blank (ne_eqb c 59 no_comment) is)
     ∙ ap (λ r. (r >>= λ q. Ok (between q)) >>= λ next. run (at + len_utf8 c) next cs) (marked-Whole at c t))
-  (cases_Bool (begins_word c))
+    (cases_Bool (begins_word c))
 
 pub nothing_run : (c : ℕ) (cs : List ℕ) (at : ℕ) (lists : List (List Tree)) → BeginsNothing c → run at (between (Open lists)) (c ∷ cs) ≡ Err (BadToken at)
 nothing_run c cs at lists is =
@@ -112,9 +112,9 @@ ends_run (Open lists) (c ∷ cs) at (Err (Stray n)) ends =
     ∙ closing_read cs at (Open []) ∙ ap (λ m. Err (Stray m)) (sym ends.1.1)
 ends_run (Open lists) [] at (Err (BadToken n)) ends = absurd ends.0
 ends_run (Open lists) (c ∷ cs) at (Err (BadToken n)) ends = ⊎_elim
-  (λ is. nothing_run c cs at lists is)
-  (λ is. ap (run at (between (Open lists))) is.parts ∙ bad_word_run is.word is.behind at lists is.is_word is.ends is.bad)
-  ends.0 ∙ ap (λ m. Err (BadToken m)) (sym ends.1)
+    (λ is. nothing_run c cs at lists is)
+    (λ is. ap (run at (between (Open lists))) is.parts ∙ bad_word_run is.word is.behind at lists is.is_word is.ends is.bad)
+    ends.0 ∙ ap (λ m. Err (BadToken m)) (sym ends.1)
 ends_run (Open lists) [] at (Err (Deep n)) ends = absurd ends.0
 ends_run (Open lists) (c ∷ cs) at (Err (Deep n)) ends =
     ap (λ d. run at (between (Open lists)) (d ∷ cs)) ends.0 ∙ deep_run cs at lists ends.1.0 ∙ ap (λ m. Err (Deep m)) (sym ends.1.1)
@@ -127,14 +127,21 @@ reaches_run text r is =
 -- an unfinished front, and what stands behind it
 abbrev reached : (text : List ℕ) (offset : ℕ) (lexemes : List Lexeme) (rest : List ℕ) (p : Progress) (r : Result Tree TreeError) → Front text offset lexemes rest → goes (Open []) lexemes ≡ Some p → EndsAs p rest offset r → Reaches 0 (Open []) text r
 reached text offset lexemes rest p r front there ends = record {
-  lexemes = lexemes; rest = rest; end = offset; progress = p; lexes = front.lexes; goes_there = there;
-  offset_is = let o = front.offset_is in omega arith; ends = ends }
+  lexemes = lexemes;
+  rest = rest;
+  end = offset;
+  progress = p;
+  lexes = front.lexes;
+  goes_there = there;
+  offset_is = let o = front.offset_is in omega arith;
+  ends = ends;
+}
 
 -- what the grammar says of a reading's end, as the machine comes to it
 pub reads_reaches : (text : List ℕ) (r : Result Tree TreeError) → ReadsAs text r → Reaches 0 (Open []) text r
 reads_reaches text (Ok t) reads =
     reached text (size text) (lexemes_of t) [] (Whole t) (Ok t) (record { lexes = reads.0; offset_is = omega arith })
-      (finished_whole (lexemes_of t) (record { tree = t; whole = refl; shallow = reads.1 })) (refl, refl)
+    (finished_whole (lexemes_of t) (record { tree = t; whole = refl; shallow = reads.1 })) (refl, refl)
 reads_reaches text (Err (NotText n)) reads = absurd reads
 reads_reaches text (Err (Unclosed n)) reads =
     let opens = unfinished_open reads.lexemes reads.unfinished in

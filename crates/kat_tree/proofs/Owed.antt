@@ -73,45 +73,53 @@ LongestBelow bytes k n = (n ≤ k) × (IsUtf8 (take n bytes) × ((m : ℕ) → n
 
 longer : (bytes : List ℕ) (k n : ℕ) → LongestBelow bytes k n → (IsUtf8 (take (suc k) bytes) → ⊥) → LongestBelow bytes (suc k) n
 longer bytes k n is none =
-    let below = is.0 in
-    (omega arith, (is.1.0, λ m above most utf8. ⊎_elim
-      (λ same. none (subst (λ i. IsUtf8 (take i bytes)) same utf8))
-      (λ other. is.1.1 m above (omega arith) utf8)
-      (cases_eq m (suc k))))
+    let below = is.0 in (
+      omega arith,
+      (
+        is.1.0,
+        λ m above most utf8. ⊎_elim
+            (λ same. none (subst (λ i. IsUtf8 (take i bytes)) same utf8))
+            (λ other. is.1.1 m above (omega arith) utf8)
+            (cases_eq m (suc k)),
+      ),
+    )
 
 longest_below : (bytes : List ℕ) (k : ℕ) → (n : ℕ) × LongestBelow bytes k n
 longest_below bytes zero = (0, (omega arith, (IsUtf8-nil, λ m above most utf8. absurd (omega arith))))
 longest_below bytes (suc k) = ⊎_elim
-  (λ is. (suc k, (omega arith, (IsUtf8-from_is_utf8 (take (suc k) bytes) is, λ m above most utf8. absurd (omega arith)))))
-  (λ is. let below = longest_below bytes k in
+    (λ is. (suc k, (omega arith, (IsUtf8-from_is_utf8 (take (suc k) bytes) is, λ m above most utf8. absurd (omega arith)))))
+    (λ is. let below = longest_below bytes k in
     (below.0, longer bytes k below.0 below.1 (λ utf8. both_ways (is_utf8 (take (suc k) bytes)) is (is_utf8-from_IsUtf8 (take (suc k) bytes) utf8))))
-  (cases_Bool (is_utf8 (take (suc k) bytes)))
+    (cases_Bool (is_utf8 (take (suc k) bytes)))
 
 valid_front : (bytes : List ℕ) → (IsUtf8 bytes → ⊥) → (n : ℕ) × IsValidUpTo bytes n
 valid_front bytes no_text =
     let is = longest_below bytes (length bytes) in
-    let whole : (m : ℕ) → length bytes ≤ m → IsUtf8 (take m bytes) → ⊥ = λ m past utf8. no_text (subst IsUtf8 (take_all m bytes past) utf8) in
-    (is.0, record {
-      short = ⊎_elim (λ less. less) (λ past. absurd (whole is.0 past is.1.1.0)) (cases_lt is.0 (length bytes));
-      front = is.1.1.0;
-      longest = λ m above utf8. ⊎_elim (λ less. let h : m ≤ length bytes = omega arith in is.1.1.1 m above h utf8) (λ past. whole m past utf8) (cases_lt m (length bytes)) })
+    let whole : (m : ℕ) → length bytes ≤ m → IsUtf8 (take m bytes) → ⊥ = λ m past utf8. no_text (subst IsUtf8 (take_all m bytes past) utf8) in (
+      is.0,
+      record {
+        short = ⊎_elim (λ less. less) (λ past. absurd (whole is.0 past is.1.1.0)) (cases_lt is.0 (length bytes));
+        front = is.1.1.0;
+        longest = λ m above utf8. ⊎_elim (λ less. let h : m ≤ length bytes = omega arith in is.1.1.1 m above h utf8) (λ past. whole m past utf8) (cases_lt m (length bytes));
+      },
+    )
 
 -- something is owed for all bytes
 pub something_owed : (bytes : List ℕ) → (r : Result Tree TreeError) × Owes bytes r
 something_owed bytes = ⊎_elim
-  (λ is. (run 0 start (chars bytes), owed_from bytes (run 0 start (chars bytes)) (IsUtf8-from_is_utf8 bytes is) (run_reads (chars bytes))))
-  (λ is. let no_text : IsUtf8 bytes → ⊥ = λ utf8. both_ways (is_utf8 bytes) is (is_utf8-from_IsUtf8 bytes utf8) in
+    (λ is. (run 0 start (chars bytes), owed_from bytes (run 0 start (chars bytes)) (IsUtf8-from_is_utf8 bytes is) (run_reads (chars bytes))))
+    (λ is. let no_text : IsUtf8 bytes → ⊥ = λ utf8. both_ways (is_utf8 bytes) is (is_utf8-from_IsUtf8 bytes utf8) in
     let valid = valid_front bytes no_text in (Err (NotText valid.0), (no_text, valid.1)))
-  (cases_Bool (is_utf8 bytes))
+    (cases_Bool (is_utf8 bytes))
 
 -- one outcome is owed for bytes, and no second
 pub owed_same : (bytes : List ℕ) (r s : Result Tree TreeError) → Owes bytes r → Owes bytes s → r ≡ s
 owed_same bytes r s first second = ⊎_elim
-  (λ is. let utf8 = IsUtf8-from_is_utf8 bytes is in reads_same (chars bytes) r s (owed_reads bytes r utf8 first) (owed_reads bytes s utf8 second))
-  (λ is. let no_text : IsUtf8 bytes → ⊥ = λ utf8. both_ways (is_utf8 bytes) is (is_utf8-from_IsUtf8 bytes utf8) in
+    (λ is. let utf8 = IsUtf8-from_is_utf8 bytes is in reads_same (chars bytes) r s (owed_reads bytes r utf8 first) (owed_reads bytes s utf8 second))
+    (λ is. let no_text : IsUtf8 bytes → ⊥ = λ utf8. both_ways (is_utf8 bytes) is (is_utf8-from_IsUtf8 bytes utf8) in
     let valid = valid_front bytes no_text in
     sym (owed_no_text bytes r valid.0 no_text valid.1 first) ∙ owed_no_text bytes s valid.0 no_text valid.1 second)
-  (cases_Bool (is_utf8 bytes))
+    (cases_Bool (is_utf8 bytes))
 
 ok_same : (t u : Tree) (r s : Result Tree TreeError) → r ≡ Ok t → s ≡ Ok u → r ≡ s → t ≡ u
 ok_same t u r s first second e = cc

@@ -55,8 +55,8 @@ digit-no_start c digit =
 pub begins_name-no_digit : (c : ℕ) → begins_name c ≡ true → is_ascii_digit c ≡ false
 begins_name-no_digit c begins =
     ⊎_elim (λ is. subst (λ d. is_ascii_digit d ≡ false) (sym (eqb-true c 95 is)) refl)
-      (λ is. false_from_ne_true (is_ascii_digit c) (λ digit. both_ways (is_xid_start c) (digit-no_start c digit) is))
-      (or_cases (eqb c 95) (is_xid_start c) begins)
+    (λ is. false_from_ne_true (is_ascii_digit c) (λ digit. both_ways (is_xid_start c) (digit-no_start c digit) is))
+    (or_cases (eqb c 95) (is_xid_start c) begins)
 
 grows : (k number : ℕ) (digits : List ℕ) → number ≤ value_behind (k + 1) number digits
 grows k number [] = omega arith

@@ -16,7 +16,8 @@ abbrev pub listed_in : Tree-F Listed → Listed
 listed_in (Tree-F.Atom token) = record { tree = tree.Atom token; trees = tree.Atom token ∷ [] }
 listed_in (Tree-F.List parts) = record {
   tree = tree.List (map (λ part. part.tree) parts);
-  trees = tree.List (map (λ part. part.tree) parts) ∷ joined (map (λ part. part.trees) parts) }
+  trees = tree.List (map (λ part. part.tree) parts) ∷ joined (map (λ part. part.trees) parts);
+}
 
 -- a tree and all trees in it, in preorder
 abbrev pub trees_of : Tree → List Tree

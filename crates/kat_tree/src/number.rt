@@ -13,6 +13,7 @@ fn with_digit(base: u32, number: u64, digit: char) -> Option<u64>
         .checked_add(u64::from(value))
 }
 
+/// The number of at least one digit, if each is a digit of the base and the number is below 2^64.
 fn digits_number(base: u32, digits: &[char]) -> Option<u64>
     requires least { 2 ≤ base }
     requires most { base ≤ 36 }

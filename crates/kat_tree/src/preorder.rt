@@ -14,5 +14,4 @@ pub fn places()
     // What stands in a tree with a number has its place counted on from there.
     ensures within { (tree part : Tree) (place n : ℕ) → tree_at tree place ≡ Some part → n < count_of part → tree_at tree (place + n) ≡ tree_at part n }
     ensures parts { (tree part : Tree) (parts : List Tree) (place i : ℕ) → tree_at tree place ≡ Some (variant.List parts) → slice_get parts i ≡ Some part → tree_at tree (place_of_part place parts i) ≡ Some part }
-{
-}
+{}

@@ -13,6 +13,7 @@ use crate::stack::Stack;
 use crate::tree::Tree;
 use std::alloc::Global;
 
+/// The tree of a text, in one pass over its characters.
 fn read_text(alloc: Global, text: &str) -> Result<Tree, TreeError>
     ensures { Gives result (run 0 start (chars text.now)) }
 {
@@ -51,12 +52,10 @@ pub fn read_tree(alloc: Global, bytes: &[u8]) -> Result<Tree, TreeError>
 /// Bytes spell at most one tree.
 pub fn one_tree()
     ensures { (bytes : List ℕ) (first second : Tree) → Spells bytes first → Spells bytes second → first ≡ second }
-{
-}
+{}
 
 /// For all bytes one thing is owed, and one alone: the tree that they spell, or their first fault.
 pub fn one_outcome()
     ensures some { (bytes : List ℕ) → (outcome : Result Tree TreeError) × Owes bytes outcome }
     ensures one { (bytes : List ℕ) (first second : Result Tree TreeError) → Owes bytes first → Owes bytes second → first ≡ second }
-{
-}
+{}

@@ -26,12 +26,14 @@ pub(crate) struct Reader {
     pub(crate) progress: Progress,
 }
 
+/// A space, a tab, a newline or a carriage return.
 fn is_blank(c: char) -> bool
     ensures { result ≡ is_blank c }
 {
     matches!(c, ' ' | '\t' | '\n' | '\r')
 }
 
+/// A digit, `_` or a letter.
 fn begins_word(c: char) -> bool
     ensures { result ≡ begins_word c }
 {

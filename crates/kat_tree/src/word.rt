@@ -7,6 +7,7 @@ use crate::tree::Token;
 use kat_text::Text;
 use std::alloc::{AllocError, Global};
 
+/// The characters as a text.
 fn text_of(alloc: Global, word: &[char]) -> Result<Text, AllocError>
     ensures { IfOk result (λ text. text ≡ encode_utf8_all word.now) }
 {
@@ -17,8 +18,8 @@ fn text_of(alloc: Global, word: &[char]) -> Result<Text, AllocError>
     Ok(Text::from_string(text))
 }
 
-#[tactic(auto, unfolding(crate::specs::Machine::word_token))]
 /// The token that a whole word spells: a number if it begins with a digit, else a name.
+#[tactic(auto, unfolding(crate::specs::Machine::word_token))]
 pub(crate) fn word_token(alloc: Global, word: &[char]) -> Result<Option<Token>, AllocError>
     ensures { IfOk result (λ token. token ≡ word_token word.now) }
 {
