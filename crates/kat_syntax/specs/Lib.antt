@@ -4,6 +4,7 @@ pub mod Machine
 pub mod Meaning
 pub mod Cycle
 pub mod Run
+pub mod Start
 pub mod StateText
 pub mod MeaningLaws
 pub mod TextLaw

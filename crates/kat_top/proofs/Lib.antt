@@ -1,2 +1,3 @@
 pub mod Cycles
+pub mod Functions
 pub mod Parts

@@ -7,20 +7,25 @@ ghost use Rattle.kat_names.specs.Names.{position_of};
 ghost use Rattle.kat_syntax.specs.Meaning.{read_of, set_register};
 ghost use Rattle.kat_syntax.specs.Cycle.{register_names};
 
+use crate::fault::TextError;
 use crate::state::State;
+use crate::tables::{register_list, register_table, step_declaration};
+use crate::typing::check_types;
 use kat_names::Table;
 use kat_syntax::{Decl, Spec, Stm, count_params, count_type};
 use kat_text::Text;
 use kat_value::{Value, copy_value};
+use sqlite_items::Items;
 use std::alloc::{AllocError, Global};
 use std::marker::Model;
 
-/// A specification whose cycles can be run: it has a step function. The table of its registers' names and the
-/// number of that function's declaration stand beside it, so that no cycle looks for them.
+/// A specification whose cycles can be run: it has a step function. The table and the list of its registers' names
+/// and the number of that function's declaration stand beside it, so that no cycle looks for them.
 #[derive(Drop)]
 pub struct Checked {
     spec: Spec,
     registers: Table,
+    names: Items<Text>,
     step: usize,
 }
 
@@ -37,7 +42,7 @@ impl Model for Checked {
 
     ghost view = { λ c. c.spec };
 
-    ghost invariant = { λ c. HasTables c.spec c.registers c.step };
+    ghost invariant = { λ c. HasTables c.spec c.registers c.names c.step };
 }
 
 impl Checked {
@@ -45,6 +50,38 @@ impl Checked {
         ensures { result.now ≡ self.now }
     {
         &self.spec
+    }
+
+    /// A specification that is typed, with its tables. `Unbuilt` comes where it is not typed.
+    pub fn new(alloc: Global, spec: Spec) -> Result<Checked, TextError>
+        ensures { IfOk result (λ checked. checked ≡ spec) }
+    {
+        check_types(alloc, &spec)?;
+        let registers = register_table(alloc, spec.decls.as_slice())?;
+        let names = register_list(alloc, spec.decls.as_slice())?;
+        let Some(step) = step_declaration(spec.decls.as_slice()) else {
+            return Err(TextError::Unbuilt);
+        };
+        Ok(Checked {
+            spec,
+            registers,
+            names,
+            step,
+        })
+    }
+
+    /// The names of the registers, in order of declaration.
+    pub fn register_names(&self) -> &[Text]
+        ensures { result.now ≡ register_names self.now.decls }
+    {
+        self.names.as_slice()
+    }
+
+    /// The position of the register of this name, if there is one.
+    pub fn register(&self, name: &str) -> Option<u32>
+        ensures { result ≡ position_of (register_names self.now.decls) name.now }
+    {
+        self.registers.find(name).ok()
     }
 
     /// The function that a cycle calls.

@@ -1,9 +1,14 @@
 // The state of a machine.
 
-ghost use Rattle.std.specs.Prelude.{◌≡◌, ◌<◌, length, slice_get, slice_set, Some};
+ghost use Rattle.std.specs.Prelude.{◌≡◌, ◌<◌, [], length, IfOk, slice_get, slice_set, Some};
 ghost use Rattle.std.specs.Option.{option_copied};
+ghost use Rattle.kat_syntax.specs.Start.{first_value_of, start_of};
 
+use crate::checked::Checked;
+use kat_syntax::{Decl, TypeName};
 use kat_value::{Value, Values};
+use sqlite_items::Items;
+use std::alloc::{AllocError, Global};
 use std::marker::Model;
 
 /// A value for each register, in order of declaration.
@@ -26,6 +31,33 @@ impl Model for State {
 }
 
 impl State {
+    /// The state with these values, one for each register in order of declaration.
+    pub fn new(registers: Values) -> State
+        ensures { result ≡ record { registers = registers; cells = [] } }
+    {
+        State { registers }
+    }
+
+    /// The state in which every register has its first value: the number 0.
+    pub fn start(alloc: Global, machine: &Checked) -> Result<State, AllocError>
+        ensures { IfOk result (λ s. s ≡ start_of machine.now) }
+    {
+        let mut registers = Items::new(alloc);
+        for decl in machine.spec().decls.as_slice() {
+            if let Decl::Register { ty, .. } = decl {
+                registers.push(first_value(ty))?;
+            }
+        }
+        Ok(State { registers })
+    }
+
+    /// The values of the registers, in order of declaration.
+    pub fn registers(&self) -> &[Value]
+        ensures { result.now ≡ self.now.registers }
+    {
+        self.registers.as_slice()
+    }
+
     /// The value of the register at this position.
     pub fn reg(&self, r: u32) -> &Value
         requires { r < length self.now.registers }
@@ -56,5 +88,18 @@ impl State {
         ensures { self.new ≡ record self.old { registers = slice_set self.old.registers r value } }
     {
         self.registers.set(r as usize, value);
+    }
+}
+
+// The first value of a type.
+fn first_value(ty: &TypeName) -> Value
+    ensures { result ≡ first_value_of ty.now }
+{
+    match ty {
+        TypeName::Bits(width) if *width <= 64 => Value::Bits {
+            width: *width as u32,
+            number: 0,
+        },
+        _ => Value::Unit,
     }
 }

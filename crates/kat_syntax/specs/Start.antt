@@ -1,0 +1,18 @@
+-- The state from which an image starts.
+use Rattle.std.specs.Prelude.{ℕ, if◌then◌else◌, nat_le, List, [], map}
+use Rattle.kat_value.specs.declared.value.Value.{Value}
+use Rattle.kat_value.specs.declared.value.Value.TheVariants.{Unit as UnitValue, Bits as Number}
+use Rattle.kat_syntax.specs.declared.decl.TypeName.{TypeName}
+use Rattle.kat_syntax.specs.declared.decl.TypeName.TheVariants.{Bits}
+use Rattle.kat_syntax.specs.declared.decl.Spec.{Spec}
+use Rattle.kat_syntax.specs.Tables.{RegisterDecl, registers_of}
+use Rattle.kat_syntax.specs.Machine.{MachineState}
+
+-- the first value of a type: the number 0; unit where there is no such type
+abbrev pub first_value_of : TypeName → Value
+first_value_of (Bits width) = if nat_le width 64 then Number width 0 else UnitValue
+first_value_of _ = UnitValue
+
+-- every register has the first value of its type
+abbrev pub start_of : Spec → MachineState
+start_of spec = record { registers = map (λ (register : RegisterDecl). first_value_of register.type) (registers_of spec.decls); cells = [] }

@@ -1,0 +1,67 @@
+// What is known of the names that a statement can use.
+
+use kat_text::Text;
+use kat_value::Ty;
+
+/// What is known of the type of a form. A `fail` has any type, and so has a name that is bound to one.
+#[derive(Clone, Copy, Debug, PartialEq, Eq)]
+pub enum Kind {
+    Open,
+    Known(Ty),
+}
+
+impl Kind {
+    /// Whether a form of this kind may stand where the type is wanted.
+    pub fn fits(self, wanted: Ty) -> bool {
+        match self {
+            Kind::Open => true,
+            Kind::Known(ty) => ty == wanted,
+        }
+    }
+
+    /// Whether a form of this kind may stand where bits of some width are wanted.
+    pub fn fits_bits(self) -> bool {
+        match self {
+            Kind::Open | Kind::Known(Ty::Bits(_)) => true,
+            Kind::Known(_) => false,
+        }
+    }
+
+    /// The kind of two forms whose types have to be equal.
+    pub fn joined(self, other: Kind) -> Option<Kind> {
+        match (self, other) {
+            (Kind::Open, kind) | (kind, Kind::Open) => Some(kind),
+            (Kind::Known(ty), Kind::Known(other)) if ty == other => Some(self),
+            _ => None,
+        }
+    }
+}
+
+/// Names with their kinds, the newest first.
+#[derive(Clone, Copy, Drop)]
+pub enum Scope<'a> {
+    Empty,
+    More {
+        name: &'a Text,
+        kind: Kind,
+        rest: &'a Scope<'a>,
+    },
+}
+
+/// The kind of a name, if it is in scope.
+pub fn kind_of_name(scope: &Scope<'_>, name: &Text) -> Option<Kind> {
+    match scope {
+        Scope::Empty => None,
+        Scope::More {
+            name: newest,
+            kind,
+            rest,
+        } => {
+            if newest.same(name) {
+                Some(*kind)
+            } else {
+                kind_of_name(rest, name)
+            }
+        }
+    }
+}
