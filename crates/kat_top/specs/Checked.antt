@@ -12,10 +12,11 @@ use Rattle.kat_syntax.specs.Cycle.{register_names}
 abbrev pub declared_at : List Decl → ℕ → Option Function
 declared_at decls k = option_and_then (function_at k) (slice_get decls k)
 
--- the registers' names stand in the table, and the step function is declared at this number, in a declaration whose
--- trees can be counted
-pub record HasTables (spec : Spec) (registers : List Name) (step : ℕ) : Type 0 where
+-- the registers' names stand in the table and in the list, and the step function is declared at this number, in a
+-- declaration whose trees can be counted
+pub record HasTables (spec : Spec) (registers listed : List Name) (step : ℕ) : Type 0 where
   pub names : registers ≡ register_names spec.decls
+  pub list : listed ≡ register_names spec.decls
   pub found : function_from 0 spec.decls (unwrap_or (step_of spec.decls) []) ≡ declared_at spec.decls step
   pub there : IsSome (declared_at spec.decls step)
   pub small : IfSome (slice_get spec.decls step) (λ decl. trees_of_decl decl < 2 ^ 32)

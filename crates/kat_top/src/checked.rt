@@ -12,15 +12,17 @@ use kat_names::Table;
 use kat_syntax::{Decl, Spec, Stm, count_params, count_type};
 use kat_text::Text;
 use kat_value::{Value, copy_value};
+use sqlite_items::Items;
 use std::alloc::{AllocError, Global};
 use std::marker::Model;
 
-/// A specification whose cycles can be run: it has a step function. The table of its registers' names and the
-/// number of that function's declaration stand beside it, so that no cycle looks for them.
+/// A specification whose cycles can be run: it has a step function. The table and the list of its registers' names
+/// and the number of that function's declaration stand beside it, so that no cycle looks for them.
 #[derive(Drop)]
 pub struct Checked {
     spec: Spec,
     registers: Table,
+    names: Items<Text>,
     step: usize,
 }
 
@@ -37,7 +39,7 @@ impl Model for Checked {
 
     ghost view = { λ c. c.spec };
 
-    ghost invariant = { λ c. HasTables c.spec c.registers c.step };
+    ghost invariant = { λ c. HasTables c.spec c.registers c.names c.step };
 }
 
 impl Checked {
@@ -45,6 +47,13 @@ impl Checked {
         ensures { result.now ≡ self.now }
     {
         &self.spec
+    }
+
+    /// The names of the registers, in order of declaration.
+    pub fn register_names(&self) -> &[Text]
+        ensures { result.now ≡ register_names self.now.decls }
+    {
+        self.names.as_slice()
     }
 
     /// The function that a cycle calls.

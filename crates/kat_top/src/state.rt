@@ -1,6 +1,6 @@
 // The state of a machine.
 
-ghost use Rattle.std.specs.Prelude.{◌≡◌, ◌<◌, length, slice_get, slice_set, Some};
+ghost use Rattle.std.specs.Prelude.{◌≡◌, ◌<◌, [], length, slice_get, slice_set, Some};
 ghost use Rattle.std.specs.Option.{option_copied};
 
 use kat_value::{Value, Values};
@@ -26,6 +26,20 @@ impl Model for State {
 }
 
 impl State {
+    /// The state with these values, one for each register in order of declaration.
+    pub fn new(registers: Values) -> State
+        ensures { result ≡ record { registers = registers; cells = [] } }
+    {
+        State { registers }
+    }
+
+    /// The values of the registers, in order of declaration.
+    pub fn registers(&self) -> &[Value]
+        ensures { result.now ≡ self.now.registers }
+    {
+        self.registers.as_slice()
+    }
+
     /// The value of the register at this position.
     pub fn reg(&self, r: u32) -> &Value
         requires { r < length self.now.registers }
