@@ -1,2 +1,4 @@
 pub mod Cycles
+pub mod Lines
 pub mod Parts
+pub mod Runs

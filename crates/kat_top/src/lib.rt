@@ -7,5 +7,7 @@ mod cycle;
 mod eval;
 mod exec;
 mod locals;
+mod runner;
 mod running;
 mod state;
+mod text;
