@@ -1,3 +1,5 @@
 pub mod Cycles
 pub mod Functions
+pub mod Lines
 pub mod Parts
+pub mod Runs

@@ -1,4 +1,5 @@
 pub mod Checked
 pub mod Cycle
 pub mod Locals
+pub mod Runner
 pub mod Running
