@@ -1,5 +1,9 @@
+pub mod Answer
 pub mod Checked
 pub mod Cycle
+pub mod Files
+pub mod Jobs
 pub mod Locals
 pub mod Runner
 pub mod Running
+pub mod Words

@@ -1,0 +1,106 @@
+-- The answer that a call of the program owes, where nothing outside fails: a status and a text.
+use Rattle.std.specs.Prelude.{◌≡◌, ◌<◌, ◌≤◌, ℕ, ◌+◌, List, [], ◌∷◌, ◌++◌, length, codes, Option, Some, None, IfSome, Result, Ok, Err, replicate, take, map}
+use Rattle.std.specs.Fmt.{decimal}
+use Rattle.kat_io.specs.Contents.{with_bytes, Grew}
+use Rattle.kat_syntax.specs.declared.decl.Spec.{Spec}
+use Rattle.kat_syntax.specs.Tables.{Name}
+use Rattle.kat_syntax.specs.Machine.{MachineState}
+use Rattle.kat_syntax.specs.Run.{Cycle, Run, RunEnd, Ended, OutIn, FailedIn, run_of}
+use Rattle.kat_syntax.specs.StateText.{newline, state_text_of}
+use Rattle.kat_top.specs.declared.status.Status.{Status}
+use Rattle.kat_top.specs.declared.status.Status.TheVariants as status
+use Rattle.kat_top.specs.declared.files.Refusal.{Refusal}
+use Rattle.kat_top.specs.declared.files.Refusal.TheVariants.{Failed, Long, Unbuilt, Memory}
+use Rattle.kat_top.specs.Files.{AgreesWith}
+use Rattle.kat_top.specs.Words.{RunJob}
+
+-- what a call owes
+pub record Answer : Type 0 where
+  pub status : Status
+  pub text : List ℕ
+
+-- a file has at most this many bytes
+abbrev pub most_bytes : ℕ
+most_bytes = 4194304
+
+-- where a file was not taken
+abbrev pub refusal_of : Name → Refusal → Answer
+refusal_of name Failed = record { status = status.ReadFault; text = codes "read " ++ name ++ newline }
+refusal_of name Long = record { status = status.TooLong; text = codes "long " ++ name ++ codes " " ++ decimal (most_bytes + 1) ++ newline }
+refusal_of name Unbuilt = record { status = status.Form; text = codes "unbuilt" ++ newline }
+refusal_of name Memory = record { status = status.Memory; text = [] }
+
+-- the status of a run that was written
+abbrev pub status_of : RunEnd → Status
+status_of Ended = status.Ok
+status_of (OutIn cycle) = status.Out
+status_of (FailedIn cycle place) = status.Failed
+
+-- a run's text, with its status
+abbrev pub run_answer : Spec → Run → Answer
+run_answer spec run = record { status = status_of run.end; text = state_text_of spec run }
+
+-- the answer to a job whose two files were taken
+abbrev pub run_answer_of : RunJob → Spec → MachineState → Answer
+run_answer_of job spec start = run_answer spec (run_of spec job.calls start (replicate job.cycles Cycle))
+
+-- the answer to a job: the specification's file is asked for first, and then the image's
+abbrev pub job_answer : RunJob → Result Spec Refusal → Result MachineState Refusal → Answer
+job_answer job (Err refusal) start = refusal_of job.spec refusal
+job_answer job (Ok spec) (Err refusal) = refusal_of job.image refusal
+job_answer job (Ok spec) (Ok start) = run_answer_of job spec start
+
+-- the answer to the words, given what the two files stand for
+abbrev pub answer_of : Option RunJob → Result Spec Refusal → Result MachineState Refusal → Answer
+answer_of None spec start = record { status = status.Usage; text = codes "usage" ++ newline }
+answer_of (Some job) spec start = job_answer job spec start
+
+-- a status and what the contents grew by are the answer's; after a failed write, and where memory ran out, the
+-- contents grew by a prefix of its text
+abbrev pub Gave : Status → Option (List ℕ) → Option (List ℕ) → Answer → Type 0
+Gave status.WriteFault old new answer = Grew old new answer.text
+Gave status.Memory old new answer = Grew old new answer.text
+Gave given old new answer = (given ≡ answer.status) × (new ≡ with_bytes old answer.text)
+
+-- what the files tell agrees with what came of them
+abbrev pub IsAsTold : Option RunJob → (Name → Option (List ℕ)) → Result Spec Refusal → Result MachineState Refusal → Type 0
+IsAsTold None told spec start = Unit {0}
+IsAsTold (Some job) told spec start = AgreesWith (told job.spec) spec × AgreesWith (told job.image) start
+
+-- the answer to a job behind its specification, for what came of the image
+abbrev pub AnsweredFrom : RunJob → Spec → (Name → Option (List ℕ)) → Status → Option (List ℕ) → Option (List ℕ) → Type 0
+AnsweredFrom job spec told given old new =
+    (start : Result MachineState Refusal) × AgreesWith (told job.image) start × Gave given old new (job_answer job (Ok spec) start)
+
+-- the answer to the words, for what came of the two files
+abbrev pub Answered : Option RunJob → (Name → Option (List ℕ)) → Status → Option (List ℕ) → Option (List ℕ) → Type 0
+Answered job told given old new =
+    (spec : Result Spec Refusal) × (start : Result MachineState Refusal) × IsAsTold job told spec start × Gave given old new (answer_of job spec start)
+
+-- a status other than that of a failed write and of want of memory
+abbrev pub IsPlain : Status → Type 0
+IsPlain status.WriteFault = ⊥
+IsPlain status.Memory = ⊥
+IsPlain _ = Unit {0}
+
+-- facts for one status
+abbrev pub IfWriteFault : Status → Type 0 → Type 0
+IfWriteFault status.WriteFault P = P
+IfWriteFault _ P = Unit {0}
+
+abbrev pub IfReadFault : Status → Type 0 → Type 0
+IfReadFault status.ReadFault P = P
+IfReadFault _ P = Unit {0}
+
+abbrev pub IfTooLong : Status → Type 0 → Type 0
+IfTooLong status.TooLong P = P
+IfTooLong _ P = Unit {0}
+
+-- a status that a run itself ends with
+abbrev pub IsOfRun : Status → Type 0
+IsOfRun status.Ok = Unit {0}
+IsOfRun status.Out = Unit {0}
+IsOfRun status.Failed = Unit {0}
+IsOfRun status.WriteFault = Unit {0}
+IsOfRun status.Memory = Unit {0}
+IsOfRun _ = ⊥

@@ -1,0 +1,120 @@
+// What is written beside the states of a run.
+
+ghost use Rattle.std.specs.Prelude.{◌≡◌, ◌≤◌, ◌++◌, IfOk, codes};
+ghost use Rattle.std.specs.Fmt.{decimal};
+ghost use Rattle.kat_io.specs.Counts.{Rose};
+ghost use Rattle.kat_syntax.specs.Run.{OutIn, FailedIn};
+ghost use Rattle.kat_syntax.specs.StateText.{newline, end_piece};
+ghost use Rattle.kat_top.specs.Answer.{Gave, IfWriteFault, IfReadFault, IfTooLong, IsOfRun, IsPlain, refusal_of};
+ghost use Rattle.kat_top.specs.declared.status.Status.TheVariants as status;
+
+use crate::files::{MOST_BYTES, Refusal};
+use crate::status::Status;
+use crate::text::{push_decimal, push_failed, push_out};
+use kat_io::{Sink, SinkError};
+use kat_syntax::Place;
+use std::alloc::{AllocError, Global};
+
+/// Writes a piece, and ends with this status where it was written whole.
+pub fn say<K: Sink>(out: &mut K, piece: &[u8], status: Status) -> Status
+    requires { IsPlain status }
+    ensures faults { K.faults out.old ≤ K.faults out.new }
+    ensures gave { Gave result (K.contents out.old) (K.contents out.new) (record { status = status; text = piece.now }) }
+    ensures write { IfWriteFault result (Rose (K.faults out.old) (K.faults out.new)) }
+{
+    match out.write_all(piece) {
+        Ok(()) => status,
+        Err(SinkError::Failed) => Status::WriteFault,
+        Err(SinkError::Memory) => Status::Memory,
+    }
+}
+
+// The line of a file that could not be read.
+fn read_line(alloc: Global, name: &str) -> Result<Vec<u8>, AllocError>
+    ensures { IfOk result (λ line. line.items ≡ codes "read " ++ name.now ++ newline) }
+{
+    let mut line = Vec::new(alloc);
+    line.extend_from_slice(b"read ")?;
+    line.extend_from_slice(name.as_bytes())?;
+    line.extend_from_slice(b"\n")?;
+    Ok(line)
+}
+
+// The line of a file that is too long, with how many of its bytes were taken.
+fn long_line(alloc: Global, name: &str) -> Result<Vec<u8>, AllocError>
+    ensures { IfOk result (λ line. line.items ≡ codes "long " ++ name.now ++ codes " " ++ decimal 4194305 ++ newline) }
+{
+    let mut line = Vec::new(alloc);
+    line.extend_from_slice(b"long ")?;
+    line.extend_from_slice(name.as_bytes())?;
+    line.extend_from_slice(b" ")?;
+    push_decimal(&mut line, MOST_BYTES + 1)?;
+    line.extend_from_slice(b"\n")?;
+    Ok(line)
+}
+
+// The line of a run that ran out of calls.
+fn out_line(alloc: Global, cycle: u64) -> Result<Vec<u8>, AllocError>
+    ensures { IfOk result (λ line. line.items ≡ end_piece 0 (OutIn cycle)) }
+{
+    let mut line = Vec::new(alloc);
+    push_out(&mut line, cycle)?;
+    Ok(line)
+}
+
+// The line of a run that failed.
+fn failed_line(alloc: Global, cycle: u64, site: Place) -> Result<Vec<u8>, AllocError>
+    ensures { IfOk result (λ line. line.items ≡ end_piece 0 (FailedIn cycle site)) }
+{
+    let mut line = Vec::new(alloc);
+    push_failed(&mut line, cycle, site)?;
+    Ok(line)
+}
+
+/// Says why a file was not taken, with the status of that.
+pub fn refuse<K: Sink>(alloc: Global, out: &mut K, name: &str, refusal: Refusal) -> Status
+    ensures faults { K.faults out.old ≤ K.faults out.new }
+    ensures gave { Gave result (K.contents out.old) (K.contents out.new) (refusal_of name.now refusal) }
+    ensures write { IfWriteFault result (Rose (K.faults out.old) (K.faults out.new)) }
+    ensures read { IfReadFault result (refusal ≡ Refusal.Failed) }
+    ensures long { IfTooLong result (refusal ≡ Refusal.Long) }
+{
+    match refusal {
+        Refusal::Failed => match read_line(alloc, name) {
+            Ok(line) => say(out, line.as_slice(), Status::ReadFault),
+            Err(_) => Status::Memory,
+        },
+        Refusal::Long => match long_line(alloc, name) {
+            Ok(line) => say(out, line.as_slice(), Status::TooLong),
+            Err(_) => Status::Memory,
+        },
+        Refusal::Unbuilt => say(out, b"unbuilt\n", Status::Form),
+        Refusal::Memory => Status::Memory,
+    }
+}
+
+/// Says that a run ran out of calls in this cycle.
+pub fn say_out<K: Sink>(alloc: Global, out: &mut K, cycle: u64) -> Status
+    ensures faults { K.faults out.old ≤ K.faults out.new }
+    ensures gave { Gave result (K.contents out.old) (K.contents out.new) (record { status = status.Out; text = end_piece 0 (OutIn cycle) }) }
+    ensures write { IfWriteFault result (Rose (K.faults out.old) (K.faults out.new)) }
+    ensures of_run { IsOfRun result }
+{
+    match out_line(alloc, cycle) {
+        Ok(line) => say(out, line.as_slice(), Status::Out),
+        Err(_) => Status::Memory,
+    }
+}
+
+/// Says that a run failed in this cycle, at this place.
+pub fn say_failed<K: Sink>(alloc: Global, out: &mut K, cycle: u64, site: Place) -> Status
+    ensures faults { K.faults out.old ≤ K.faults out.new }
+    ensures gave { Gave result (K.contents out.old) (K.contents out.new) (record { status = status.Failed; text = end_piece 0 (FailedIn cycle site) }) }
+    ensures write { IfWriteFault result (Rose (K.faults out.old) (K.faults out.new)) }
+    ensures of_run { IsOfRun result }
+{
+    match failed_line(alloc, cycle, site) {
+        Ok(line) => say(out, line.as_slice(), Status::Failed),
+        Err(_) => Status::Memory,
+    }
+}

@@ -1,0 +1,42 @@
+// How the program ends.
+
+/// The status with which the program ends, in the order of the numbers, from 0.
+#[derive(Clone, Copy, Debug, PartialEq, Eq)]
+pub enum Status {
+    /// The job's output was written whole.
+    Ok,
+    /// The verdict is a refusal.
+    Refused,
+    /// The words are those of no job.
+    Usage,
+    /// A file could not be read.
+    ReadFault,
+    /// The output could not be written whole.
+    WriteFault,
+    /// A file has more bytes than are read.
+    TooLong,
+    /// A text stands for nothing that is built.
+    Form,
+    /// A specification is not typed.
+    IllTyped,
+    /// The verdict is a limit that was reached.
+    Limit,
+    /// The image does not meet the boot condition.
+    NotBooted,
+    /// A cycle made a call with none left.
+    Out,
+    /// A cycle failed.
+    Failed,
+    /// A device gave a write that is refused.
+    BadPoke,
+    Memory,
+}
+
+impl Status {
+    /// The number that the system is told: 0 for `Ok` to 13 for `Memory`.
+    pub fn number(self) -> u8
+        ensures { result < 14 }
+    {
+        self as u8
+    }
+}
