@@ -1,16 +1,16 @@
 -- The machine gives each text the one end that the grammar says of it.
-use Rattle.std.proofs.Common.{◌≡◌, ℕ, ◌+◌, ◌≤◌, ◌⊎◌, inl, inr, List, [], ◌∷◌, ◌++◌, length, Result, Ok, Err, Some, sym, ap, ◌∙◌, subst, refl, arith}
+use Rattle.std.proofs.Common.{◌≡◌, ℕ, ◌+◌, ◌≤◌, inl, inr, List, [], length, Result, Ok, Err, Some, sym, ap, ◌∙◌, subst, arith}
 use Rattle.kat_tree.specs.declared.error.TreeError.{TreeError}
 use Rattle.kat_tree.specs.declared.error.TreeError.TheVariants.{NotText, Unclosed, Stray, BadToken, Deep, Memory}
 use Rattle.kat_tree.specs.declared.tree.Tree.{Tree}
 use Rattle.kat_tree.specs.declared.progress.Progress.{Progress}
 use Rattle.kat_tree.specs.declared.progress.Progress.TheVariants.{Open, Whole}
 use Rattle.kat_tree.specs.Lexeme.{Lexeme, lexemes_of, nesting}
-use Rattle.kat_tree.specs.Spelling.{Lexes, IsTextOf}
-use Rattle.kat_tree.specs.Faults.{IsUnfinished, IsFinished, openings, closings, BeginsMore, BeginsWith, BeginsNoToken, size, Front, ReadsAs}
+use Rattle.kat_tree.specs.Spelling.{Lexes}
+use Rattle.kat_tree.specs.Faults.{IsUnfinished, size, Front, ReadsAs}
 use Rattle.kat_tree.specs.Machine.{run, start}
-use Rattle.kat_tree.proofs.Goes.{goes, goes_tokens, goes_count, open_unfinished, lists_fit_count, ListsFit, read_so_far}
-use Rattle.kat_tree.proofs.Outcome.{EndsAs, Reaches, reads_run}
+use Rattle.kat_tree.proofs.Goes.{goes, goes_tokens, goes_count, open_unfinished, lists_fit_count, read_so_far}
+use Rattle.kat_tree.proofs.Outcome.{EndsAs, reads_run}
 use Rattle.kat_tree.proofs.Sound.{readings}
 
 front_of : (text : List ℕ) (at : ℕ) (lexemes : List Lexeme) (rest : List ℕ) → Lexes text lexemes rest → at + size rest ≡ 0 + size text → Front text at lexemes rest

@@ -4,12 +4,12 @@ use Rattle.std.proofs.lemmas.Bool.{lt-ltb, ltb-true}
 use Rattle.std.specs.Option.{option_and_then}
 use Rattle.std.specs.List.{AllByRecursion}
 use Rattle.kat_tree.specs.declared.tree.Token.{Token}
-use Rattle.kat_tree.specs.declared.tree.Token.TheVariants.{Number, Name}
+use Rattle.kat_tree.specs.declared.tree.Token.TheVariants.{Number}
 use Rattle.kat_tree.specs.declared.tree.Tree.{Tree}
 use Rattle.kat_tree.specs.declared.tree.Tree.TheVariants as tree
 use Rattle.kat_tree.specs.declared.progress.Progress.{Progress}
 use Rattle.kat_tree.specs.declared.progress.Progress.TheVariants.{Open, Whole}
-use Rattle.kat_tree.specs.Lexeme.{Lexeme, Opening, Closing, Leaf, joined, lexemes_of, lexemes_of_all, greatest, nesting, nesting_of_all}
+use Rattle.kat_tree.specs.Lexeme.{Lexeme, Opening, Closing, Leaf, joined, lexemes_of, lexemes_of_all, nesting, nesting_of_all}
 use Rattle.kat_tree.specs.Faults.{IsUnfinished, IsFinished, openings, closings}
 use Rattle.kat_tree.specs.Machine.{with_tree}
 use Rattle.kat_tree.proofs.Trees.{tree_induction, lexemes_of-Atom, lexemes_of-List, nesting-Atom, nesting-List}

@@ -1,5 +1,5 @@
 -- Characters: the machine goes over what the grammar puts between and into tokens.
-use Rattle.std.proofs.Common.{◌≡◌, ◌≢◌, ℕ, ◌+◌, ◌<◌, ◌≤◌, Bool, true, false, cond, eqb, ltb, List, [], ◌∷◌, ◌++◌, length, Option, Some, None, Result, Ok, Err, sym, ap, ◌∙◌, subst, refl, arith, append_assoc, append-nil, length-append}
+use Rattle.std.proofs.Common.{◌≡◌, ◌≢◌, ℕ, ◌+◌, true, false, cond, eqb, ltb, List, [], ◌∷◌, ◌++◌, length, Some, Result, Ok, Err, sym, ap, ◌∙◌, subst, refl, arith, append_assoc, append-nil, length-append}
 use Rattle.std.specs.Prelude.{encode_utf8, encode_utf8_all}
 use Rattle.std.specs.Char.{len_utf8}
 use Rattle.std.specs.List.{AllByRecursion}
@@ -7,20 +7,18 @@ use Rattle.std.proofs.lemmas.Bool.{cond-true, cond-false, ne_eqb}
 use Rattle.std.proofs.lemmas.Str.{encodes-append, length-encode}
 use Rattle.unicode_ident.specs.Ident.{is_xid_continue}
 use Rattle.kat_tree.specs.declared.error.TreeError.{TreeError}
-use Rattle.kat_tree.specs.declared.error.TreeError.TheVariants.{NotText, Unclosed, Stray, BadToken, Deep, Memory}
+use Rattle.kat_tree.specs.declared.error.TreeError.TheVariants.{Deep}
 use Rattle.kat_tree.specs.declared.tree.Token.{Token}
-use Rattle.kat_tree.specs.declared.tree.Tree.{Tree}
 use Rattle.kat_tree.specs.declared.tree.Tree.TheVariants as tree
 use Rattle.kat_tree.specs.declared.progress.Progress.{Progress}
 use Rattle.kat_tree.specs.declared.progress.Progress.TheVariants.{Open, Whole}
-use Rattle.kat_tree.specs.declared.reader.Mode.{Mode}
 use Rattle.kat_tree.specs.declared.reader.Mode.TheVariants.{Between, Comment, Word}
 use Rattle.kat_tree.specs.declared.reader.Reader.{Reader}
 use Rattle.kat_tree.specs.Character.{is_blank, begins_word}
 use Rattle.kat_tree.specs.Lexeme.{Lexeme, Opening, Closing, Leaf}
-use Rattle.kat_tree.specs.Spelling.{Lexes, nothing, blank, comment, opening, closing, word, IsWord, EndsWord, EndsComment, StandsFor}
+use Rattle.kat_tree.specs.Spelling.{Lexes, nothing, blank, comment, opening, closing, word, IsWord, EndsWord, EndsComment}
 use Rattle.kat_tree.specs.Faults.{size}
-use Rattle.kat_tree.specs.Machine.{◌>>=◌, opened, closed, with_tree, with_token, with_word, word_token, finished, refused, marked, begun, stepped, ended, run}
+use Rattle.kat_tree.specs.Machine.{◌>>=◌, opened, closed, with_tree, with_token, with_word, word_token, finished, marked, begun, stepped, run}
 use Rattle.kat_tree.proofs.Goes.{taken, goes, none_some, some_same, chosen_some, and_then_some}
 use Rattle.kat_tree.proofs.ReadsOn.{run-cons, run-nil}
 use Rattle.kat_tree.proofs.Words.{begins_word-not_blank, begins_word-not_semicolon, opening-no_word, closing-no_word, word_token_from}

@@ -1,5 +1,5 @@
 -- Preorder numbers.
-use Rattle.std.proofs.Common.{◌≡◌, ℕ, zero, suc, ◌+◌, ◌-◌, ◌<◌, ◌≤◌, List, [], ◌∷◌, ◌++◌, length, map, sum, take, get_or, Option, Some, None, IsSome, ◌↔◌, ◌⊎◌, inl, inr, ⊎_elim, sym, ap, ◌∙◌, subst, refl, arith, append_assoc, append-nil, length-append}
+use Rattle.std.proofs.Common.{◌≡◌, ℕ, zero, suc, ◌+◌, ◌-◌, ◌<◌, List, [], ◌∷◌, ◌++◌, length, map, sum, take, Option, Some, None, IsSome, ◌↔◌, ⊎_elim, sym, ap, ◌∙◌, subst, refl, arith, append_assoc, append-nil, length-append}
 use Rattle.std.specs.Prelude.{slice_get}
 use Rattle.std.specs.List.{AllByRecursion}
 use Rattle.std.proofs.lemmas.Bool.{cases_lt, false≢true}
@@ -12,7 +12,7 @@ use Rattle.kat_tree.specs.declared.tree.Tree.TheVariants.{rolls-Atom, rolls-List
 use Rattle.kat_tree.specs.declared.tree.Tree.TheOpen.{Tree-F}
 use Rattle.kat_tree.specs.declared.tree.Tree.TheFolds.{fold-Tree, fold-roll-Tree}
 use Rattle.kat_tree.specs.Lexeme.{joined}
-use Rattle.kat_tree.specs.Preorder.{Listed, listed_in, trees_of, tree_at, count_in, count_of, place_of_part}
+use Rattle.kat_tree.specs.Preorder.{Listed, listed_in, trees_of, trees_of_all, tree_at, count_in, count_of, place_of_part}
 use Rattle.kat_tree.proofs.Goes.{none_some, some_same}
 use Rattle.kat_tree.proofs.Trees.{tree_induction}
 
@@ -41,15 +41,18 @@ every_itself : (parts : List Tree) → map (λ part. part.tree) (map listed_of p
 every_itself [] = refl
 every_itself (t ∷ parts) = ap (λ u. u ∷ map (λ part. part.tree) (map listed_of parts)) (itself t) ∙ ap (λ us. t ∷ us) (every_itself parts)
 
--- the trees of trees side by side
-abbrev trees_of_all : List Tree → List Tree
-trees_of_all parts = joined (map (λ part. part.trees) (map listed_of parts))
+trees_of_each : (parts : List Tree) → joined (map (λ part. part.trees) (map listed_of parts)) ≡ trees_of_all parts
+trees_of_each [] = refl
+trees_of_each (t ∷ parts) = ap (λ ts. trees_of t ++ ts) (trees_of_each parts)
 
-trees_of-Atom : (token : Token) → trees_of (tree.Atom token) ≡ tree.Atom token ∷ []
+pub trees_of-Atom : (token : Token) → trees_of (tree.Atom token) ≡ tree.Atom token ∷ []
 trees_of-Atom token = ap (λ l. l.trees) (listed_of-Atom token)
 
-trees_of-List : (parts : List Tree) → trees_of (tree.List parts) ≡ tree.List parts ∷ trees_of_all parts
-trees_of-List parts = ap (λ l. l.trees) (listed_of-List parts) ∙ ap (λ us. tree.List us ∷ trees_of_all parts) (every_itself parts)
+pub trees_of-List : (parts : List Tree) → trees_of (tree.List parts) ≡ tree.List parts ∷ trees_of_all parts
+trees_of-List parts =
+    ap (λ l. l.trees) (listed_of-List parts)
+    ∙ ap (λ us. tree.List us ∷ joined (map (λ part. part.trees) (map listed_of parts))) (every_itself parts)
+    ∙ ap (λ ts. tree.List parts ∷ ts) (trees_of_each parts)
 
 -- counts
 sum_from : (a : ℕ) (ns : List ℕ) → fold (λ x y. x + y) a ns ≡ a + fold (λ x y. x + y) 0 ns
@@ -59,7 +62,7 @@ sum_from a (n ∷ ns) = omega (arith, sum_from (a + n) ns, sum_from (0 + n) ns)
 sum-cons : (n : ℕ) (ns : List ℕ) → sum (n ∷ ns) ≡ n + sum ns
 sum-cons n ns = omega (arith, sum_from (0 + n) ns)
 
-count_of-Atom : (token : Token) → count_of (tree.Atom token) ≡ 1
+pub count_of-Atom : (token : Token) → count_of (tree.Atom token) ≡ 1
 count_of-Atom token = ap count_of (sym (rolls-Atom token)) ∙ fold-roll-Tree ℕ count_in (Tree-F.Atom token)
 
 pub count_of-List : (parts : List Tree) → count_of (tree.List parts) ≡ sum (map count_of parts) + 1

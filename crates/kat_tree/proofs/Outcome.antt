@@ -1,25 +1,23 @@
 -- How a reading ends, in the grammar's words and in the machine's.
-use Rattle.std.proofs.Common.{◌≡◌, ◌≢◌, ℕ, ◌+◌, ◌<◌, ◌≤◌, Bool, true, false, cond, eqb, ltb, ◌⊎◌, inl, inr, ⊎_elim, List, [], ◌∷◌, ◌++◌, length, Option, Some, None, Result, Ok, Err, sym, ap, ◌∙◌, subst, refl, arith}
+use Rattle.std.proofs.Common.{◌≡◌, ◌≢◌, ℕ, ◌+◌, ◌≤◌, false, eqb, ltb, inl, inr, ⊎_elim, List, [], ◌∷◌, ◌++◌, length, Option, Some, None, Result, Ok, Err, sym, ap, ◌∙◌, refl, arith}
 use Rattle.std.specs.Char.{len_utf8}
-use Rattle.std.specs.List.{AllByRecursion}
-use Rattle.std.proofs.lemmas.Bool.{cond-true, cond-false, ne_eqb, le-ltb, ltb-false, ltb-true, cases_Bool, eqb-true, eqb-false}
+use Rattle.std.proofs.lemmas.Bool.{cond-true, cond-false, ne_eqb, le-ltb, cases_Bool}
 use Rattle.unicode_ident.specs.Ident.{is_xid_continue}
 use Rattle.kat_tree.specs.declared.error.TreeError.{TreeError}
 use Rattle.kat_tree.specs.declared.error.TreeError.TheVariants.{NotText, Unclosed, Stray, BadToken, Deep, Memory}
 use Rattle.kat_tree.specs.declared.tree.Token.{Token}
 use Rattle.kat_tree.specs.declared.tree.Tree.{Tree}
-use Rattle.kat_tree.specs.declared.tree.Tree.TheVariants as tree
 use Rattle.kat_tree.specs.declared.progress.Progress.{Progress}
 use Rattle.kat_tree.specs.declared.progress.Progress.TheVariants.{Open, Whole}
 use Rattle.kat_tree.specs.Character.{is_blank, begins_word}
-use Rattle.kat_tree.specs.Lexeme.{Lexeme, Opening, Closing, Leaf, lexemes_of, nesting}
-use Rattle.kat_tree.specs.Spelling.{Lexes, nothing, blank, comment, opening, closing, word, IsWord, EndsWord, EndsComment, StandsFor, IsTextOf}
-use Rattle.kat_tree.specs.Faults.{IsUnfinished, IsFinished, openings, closings, BeginsWith, BeginsMore, BeginsNothing, IsBadWord, BeginsNoToken, size, Front, EndsEarly, HasBadToken, IsTooDeep, ClosesNothing, GoesOn, ReadsAs}
-use Rattle.kat_tree.specs.Machine.{◌>>=◌, opened, closed, with_tree, with_token, with_word, word_token, finished, refused, marked, begun, stepped, ended, run, start}
-use Rattle.kat_tree.proofs.Goes.{taken, goes, goes_tokens, goes_count, finished_whole, unfinished_open, open_unfinished, lists_fit_count, Fits, tokens_of}
+use Rattle.kat_tree.specs.Lexeme.{Lexeme, lexemes_of}
+use Rattle.kat_tree.specs.Spelling.{Lexes, IsWord, EndsWord, StandsFor}
+use Rattle.kat_tree.specs.Faults.{BeginsWith, BeginsMore, BeginsNothing, BeginsNoToken, size, Front, ReadsAs}
+use Rattle.kat_tree.specs.Machine.{◌>>=◌, with_token, word_token, marked, run, start}
+use Rattle.kat_tree.proofs.Goes.{goes, goes_count, finished_whole, unfinished_open}
 use Rattle.kat_tree.proofs.ReadsOn.{run-cons, run-nil}
 use Rattle.kat_tree.proofs.Words.{word_token_is}
-use Rattle.kat_tree.proofs.Lexing.{size-cons, between, in_word, begun-word, begun-mark, lexes_run, word_read, opening_read, closing_read}
+use Rattle.kat_tree.proofs.Lexing.{between, in_word, begun-word, begun-mark, lexes_run, word_read, opening_read, closing_read}
 
 -- what stands at an offset ends the reading, with the tree or with a fault
 abbrev pub EndsAs : Progress → List ℕ → ℕ → Result Tree TreeError → Type 0

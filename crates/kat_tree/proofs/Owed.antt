@@ -1,14 +1,13 @@
 -- From characters to bytes.
-use Rattle.std.proofs.Common.{◌≡◌, ◌≢◌, ℕ, zero, suc, ◌+◌, ◌≤◌, ◌<◌, Bool, true, false, List, [], ◌∷◌, length, take, take_all, Result, Ok, Err, sym, ap, ◌∙◌, subst, refl, arith, ⊎_elim, inl, inr, ◌⊎◌}
+use Rattle.std.proofs.Common.{◌≡◌, ◌≢◌, ℕ, zero, suc, ◌≤◌, ◌<◌, List, length, take, take_all, Result, Ok, Err, sym, ap, ◌∙◌, subst, refl, arith, ⊎_elim}
 use Rattle.std.specs.Prelude.{IfOk, IfErr}
 use Rattle.std.specs.Str.{IsUtf8, is_utf8, IsValidUpTo, chars}
-use Rattle.std.specs.Str.Lossy.{utf8_valid_len}
 use Rattle.std.proofs.lemmas.Bool.{cases_Bool, both_ways, cases_eq, cases_lt}
 use Rattle.std.proofs.lemmas.Str.{IsUtf8-from_is_utf8, is_utf8-from_IsUtf8, utf8_valid_len-IsValidUpTo, IsUtf8-nil}
 use Rattle.kat_tree.specs.declared.error.TreeError.{TreeError}
 use Rattle.kat_tree.specs.declared.error.TreeError.TheVariants.{NotText, Unclosed, Stray, BadToken, Deep, Memory}
 use Rattle.kat_tree.specs.declared.tree.Tree.{Tree}
-use Rattle.kat_tree.specs.Spelling.{Spells, IsTextOf}
+use Rattle.kat_tree.specs.Spelling.{Spells}
 use Rattle.kat_tree.specs.Faults.{ReadsAs, IsFirstFault, Owes}
 use Rattle.kat_tree.specs.Machine.{Fails, Gives, run, start}
 use Rattle.kat_tree.proofs.Exact.{run_reads, reads_same}

@@ -1,12 +1,11 @@
 -- A loop over the characters of a text.
-use Rattle.std.proofs.Common.{◌≡◌, ℕ, ◌+◌, List, [], ◌∷◌, ◌++◌, Ok, Err, Result, length, sym, ap, ◌∙◌, refl, arith, length-append}
+use Rattle.std.proofs.Common.{◌≡◌, ℕ, ◌+◌, List, [], ◌∷◌, ◌++◌, Ok, Result, length, sym, ap, ◌∙◌, refl, arith, length-append}
 use Rattle.std.specs.Prelude.{encode_utf8}
 use Rattle.std.specs.Char.{len_utf8}
 use Rattle.std.specs.Str.{chars, IsUtf8}
 use Rattle.std.proofs.lemmas.Str.{IsUtf8-past_char, chars_past_char, length-encode, chars-nil}
 use Rattle.std.proofs.lemmas.List.{nil_from_length}
 use Rattle.kat_tree.specs.declared.reader.Reader.{Reader}
-use Rattle.kat_tree.specs.declared.tree.Tree.{Tree}
 use Rattle.kat_tree.specs.declared.error.TreeError.{TreeError}
 use Rattle.kat_tree.specs.declared.error.TreeError.TheVariants.{NotText, Unclosed, Stray, BadToken, Deep, Memory}
 use Rattle.kat_tree.specs.Machine.{◌>>=◌, Fails, run, start, stepped, ended}

@@ -1,21 +1,21 @@
 -- Whatever the machine answers is so by the grammar.
-use Rattle.std.proofs.Common.{◌≡◌, ◌≢◌, ℕ, ◌+◌, ◌<◌, ◌≤◌, Bool, true, false, cond, eqb, ltb, inl, inr, ⊎_elim, List, [], ◌∷◌, ◌++◌, length, Option, Some, None, Result, Ok, Err, sym, ap, ◌∙◌, subst, refl, arith, append_assoc, append-nil}
+use Rattle.std.proofs.Common.{◌≡◌, ◌≢◌, ℕ, ◌+◌, true, false, eqb, ltb, inl, inr, ⊎_elim, List, [], ◌∷◌, ◌++◌, length, Option, Some, None, Result, Ok, Err, sym, ap, ◌∙◌, subst, refl, arith, append_assoc, append-nil}
 use Rattle.std.specs.Char.{len_utf8}
 use Rattle.std.specs.List.{AllByRecursion}
-use Rattle.std.proofs.lemmas.Bool.{cond-true, cond-false, ltb-false, ltb-true, cases_Bool, eqb-true, eqb-false}
+use Rattle.std.proofs.lemmas.Bool.{cond-true, cond-false, ltb-false, cases_Bool, eqb-true, eqb-false}
 use Rattle.unicode_ident.specs.Ident.{is_xid_continue}
 use Rattle.kat_tree.specs.declared.error.TreeError.{TreeError}
-use Rattle.kat_tree.specs.declared.error.TreeError.TheVariants.{NotText, Unclosed, Stray, BadToken, Deep, Memory}
+use Rattle.kat_tree.specs.declared.error.TreeError.TheVariants.{Stray, BadToken, Deep}
 use Rattle.kat_tree.specs.declared.tree.Token.{Token}
 use Rattle.kat_tree.specs.declared.tree.Tree.{Tree}
 use Rattle.kat_tree.specs.declared.tree.Tree.TheVariants as tree
 use Rattle.kat_tree.specs.declared.progress.Progress.{Progress}
 use Rattle.kat_tree.specs.declared.progress.Progress.TheVariants.{Open, Whole}
 use Rattle.kat_tree.specs.Character.{is_blank, begins_word}
-use Rattle.kat_tree.specs.Lexeme.{Lexeme, Opening, Closing, Leaf, lexemes_of}
+use Rattle.kat_tree.specs.Lexeme.{Lexeme, Opening, Closing, Leaf}
 use Rattle.kat_tree.specs.Spelling.{Lexes, nothing, blank, comment, opening, closing, word, IsWord, EndsWord, EndsComment, StandsFor}
-use Rattle.kat_tree.specs.Faults.{BeginsMore, BeginsNothing, size}
-use Rattle.kat_tree.specs.Machine.{◌>>=◌, opened, closed, with_tree, with_token, with_word, word_token, finished, marked, begun, stepped, ended, run, start}
+use Rattle.kat_tree.specs.Faults.{BeginsNothing, size}
+use Rattle.kat_tree.specs.Machine.{◌>>=◌, opened, closed, with_tree, with_token, with_word, word_token, finished, begun, run}
 use Rattle.kat_tree.proofs.Goes.{taken, goes, none_some}
 use Rattle.kat_tree.proofs.ReadsOn.{run-cons, run-nil}
 use Rattle.kat_tree.proofs.Words.{word_token_is, word_token_from, begins_word-not_blank, begins_word-not_semicolon}

@@ -1,5 +1,5 @@
 -- Trees by their parts: induction, and the equations of what is defined by layers.
-use Rattle.std.proofs.Common.{◌≡◌, ℕ, ◌+◌, ◌≤◌, max, List, [], ◌∷◌, ◌++◌, map, sym, ap, ◌∙◌, subst, refl}
+use Rattle.std.proofs.Common.{◌≡◌, ℕ, ◌+◌, List, [], ◌∷◌, ◌++◌, map, sym, ap, ◌∙◌, subst}
 use Rattle.std.specs.List.{AllByRecursion}
 use Rattle.kat_tree.specs.declared.tree.Token.{Token}
 use Rattle.kat_tree.specs.declared.tree.Tree.{Tree}
@@ -7,8 +7,8 @@ use Rattle.kat_tree.specs.declared.tree.Tree.TheVariants as tree
 use Rattle.kat_tree.specs.declared.tree.Tree.TheVariants.{rolls-Atom, rolls-List}
 use Rattle.kat_tree.specs.declared.tree.Tree.TheOpen.{Tree-F}
 use Rattle.kat_tree.specs.declared.tree.Tree.TheViews.{roll-Tree}
-use Rattle.kat_tree.specs.declared.tree.Tree.TheFolds.{fold-Tree, fold-roll-Tree, ind-Tree, map-Tree}
-use Rattle.kat_tree.specs.Lexeme.{Lexeme, Opening, Closing, Leaf, lexemes_in, lexemes_of, lexemes_of_all, greatest, nesting_in, nesting, nesting_of_all}
+use Rattle.kat_tree.specs.declared.tree.Tree.TheFolds.{fold-roll-Tree, ind-Tree, map-Tree}
+use Rattle.kat_tree.specs.Lexeme.{Lexeme, Opening, Closing, Leaf, lexemes_in, lexemes_of, lexemes_of_all, nesting_in, nesting, nesting_of_all}
 
 all_of : (P : Tree → Type 0) (parts : List ((t : Tree) × P t)) → AllByRecursion P (map (λ part. part.0) parts)
 all_of P [] = tt

@@ -1,19 +1,19 @@
 -- Words: which characters begin one, and which token one stands for.
-use Rattle.std.proofs.Common.{◌≡◌, ◌≢◌, ℕ, ◌+◌, ◌-◌, ◌*◌, ◌^◌, ◌<◌, ◌≤◌, Bool, true, false, cond, eqb, ltb, leb, ◌||◌, ◌&&◌, List, [], ◌∷◌, length, Option, Some, None, ◌⊎◌, inl, inr, ⊎_elim, sym, ap, ◌∙◌, subst, refl, arith}
+use Rattle.std.proofs.Common.{◌≡◌, ℕ, ◌+◌, ◌*◌, ◌^◌, ◌<◌, ◌≤◌, Bool, true, false, cond, eqb, ltb, leb, ◌||◌, ◌&&◌, List, [], ◌∷◌, length, Option, Some, None, inl, inr, ⊎_elim, sym, ap, ◌∙◌, subst, refl, arith}
 use Rattle.std.specs.Prelude.{encode_utf8_all}
 use Rattle.std.specs.Char.{digit_value, is_ascii_digit, is_ascii_alphabetic}
 use Rattle.std.specs.List.{AllByRecursion}
 use Rattle.std.specs.Option.{option_and_then}
-use Rattle.std.proofs.lemmas.Bool.{lt-ltb, ltb-true, eqb-true, both_ways, and_parts, and_from, or_cases, or_parts, or_right, false_from_ne_true, cond-true, cond-false, leb-true, le-leb, ne_eqb, and_left, or_from, lt-leb}
+use Rattle.std.proofs.lemmas.Bool.{lt-ltb, ltb-true, eqb-true, both_ways, and_parts, and_from, or_cases, false_from_ne_true, cond-true, cond-false, leb-true, ne_eqb, and_left, or_from, lt-leb}
 use Rattle.std.proofs.lemmas.Bool.Decides.{nat_tests}
-use Rattle.unicode_ident.specs.Ident.{is_xid_start, is_xid_continue}
+use Rattle.unicode_ident.specs.Ident.{is_xid_start}
 use Rattle.unicode_ident.proofs.IdentLemmas.{is_xid_start-ascii}
 use Rattle.kat_tree.specs.declared.tree.Token.{Token}
 use Rattle.kat_tree.specs.declared.tree.Token.TheVariants.{Number, Name}
 use Rattle.kat_tree.specs.Character.{is_blank, begins_name, begins_word}
 use Rattle.kat_tree.specs.Number.{with_digit, with_digits, digits_number, word_number}
 use Rattle.kat_tree.specs.Machine.{number_token, word_token}
-use Rattle.kat_tree.specs.Spelling.{value_behind, IsNumeral, IsHexadecimal, BeginsName, IsWord, StandsFor}
+use Rattle.kat_tree.specs.Spelling.{value_behind, IsNumeral, IsWord, StandsFor}
 use Rattle.kat_tree.proofs.Goes.{none_some, some_same, chosen_some, and_then_some, cons_nil}
 
 -- an ASCII character that is neither a digit, a letter nor `_` begins no word

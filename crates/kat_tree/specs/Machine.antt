@@ -1,9 +1,9 @@
 -- The reader as a machine over characters.
-use Rattle.std.specs.Prelude.{◌≡◌, ℕ, ◌+◌, List, [], ◌∷◌, ◌++◌, length, Option, Some, None, Result, Ok, Err, Bool, nat_lt, ◌==◌, if◌then◌else◌, encode_utf8_all}
+use Rattle.std.specs.Prelude.{◌≡◌, ℕ, ◌+◌, List, [], ◌∷◌, ◌++◌, length, Option, Some, None, Result, Ok, Err, nat_lt, ◌==◌, if◌then◌else◌, encode_utf8_all}
 use Rattle.std.specs.Char.{len_utf8, is_ascii_digit}
 use Rattle.unicode_ident.specs.Ident.{is_xid_continue}
 use Rattle.kat_tree.specs.declared.error.TreeError.{TreeError}
-use Rattle.kat_tree.specs.declared.error.TreeError.TheVariants.{NotText, Unclosed, Stray, BadToken, Deep, Memory}
+use Rattle.kat_tree.specs.declared.error.TreeError.TheVariants.{Unclosed, Stray, BadToken, Deep, Memory}
 use Rattle.kat_tree.specs.declared.tree.Token.{Token}
 use Rattle.kat_tree.specs.declared.tree.Token.TheVariants.{Number, Name}
 use Rattle.kat_tree.specs.declared.tree.Tree.{Tree}

@@ -23,6 +23,10 @@ listed_in (Tree-F.List parts) = record {
 abbrev pub trees_of : Tree → List Tree
 trees_of t = (fold-Tree Listed listed_in t).trees
 
+-- those of trees side by side
+abbrev pub trees_of_all : List Tree → List Tree
+trees_of_all parts = joined (map trees_of parts)
+
 -- the tree with a number
 abbrev pub tree_at : Tree → ℕ → Option Tree
 tree_at t place = slice_get (trees_of t) place

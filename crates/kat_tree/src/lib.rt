@@ -5,6 +5,7 @@
 
 mod error;
 mod number;
+mod parts;
 mod preorder;
 mod progress;
 mod read;
@@ -14,6 +15,7 @@ mod tree;
 mod word;
 
 pub use error::TreeError;
+pub use parts::layers;
 pub use preorder::places;
 pub use read::{one_outcome, one_tree, read_tree};
 pub use tree::{Token, Tree, Trees};

@@ -1,8 +1,5 @@
-use Rattle.std.proofs.Common.{subst}
 use Rattle.std.proofs.lemmas.Result.{err_from_is_err_and}
-use Rattle.std.specs.Str.{chars}
 use Rattle.std.specs.Str.Iter.{chars_rest}
-use Rattle.kat_tree.specs.Machine.{Gives, run, start}
 use Rattle.kat_tree.proofs.ReadsOn.{ReadsOn-step, ReadsOn-fails, ReadsOn-end}
 use Rattle.kat_tree.proofs.read.read_text.Goals as goal
 
