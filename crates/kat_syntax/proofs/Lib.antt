@@ -1,0 +1,4 @@
+pub mod TextNumbers
+pub mod TextValues
+pub mod TextLines
+pub mod TextPieces

@@ -6,3 +6,4 @@ pub mod Cycle
 pub mod Run
 pub mod StateText
 pub mod MeaningLaws
+pub mod TextLaw

@@ -1,11 +1,10 @@
 -- The equations of the meaning, form by form.
 use Rattle.std.specs.Prelude.{◌≡◌, ℕ, ◌+◌, if◌then◌else◌, ◌∷◌, List, refl}
 use Rattle.std.proofs.Common.{ap, ◌∙◌, sym, subst, arith}
-use Rattle.kat_value.specs.declared.value.Value.{Value}
 use Rattle.kat_syntax.specs.declared.expr.Expr.{Expr}
 use Rattle.kat_syntax.specs.declared.stm.Stm.{Stm}
 use Rattle.kat_syntax.specs.declared.stm.Stm.TheOpen.{Stm-F, Ret, Let, If, Read, Write, Fail}
-use Rattle.kat_syntax.specs.declared.stm.Stm.TheViews.{out-Stm, roll-Stm}
+use Rattle.kat_syntax.specs.declared.stm.Stm.TheViews.{out-Stm}
 use Rattle.kat_syntax.specs.declared.stm.Stm.TheFolds.{map-Stm, fold-Stm, fold-roll-Stm, fold_out-Stm, ind-Stm}
 use Rattle.kat_syntax.specs.Tables.{Name}
 use Rattle.kat_syntax.specs.Trees.{trees_of_expr, stm_trees, trees_of_stm}

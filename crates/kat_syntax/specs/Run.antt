@@ -1,5 +1,5 @@
 -- A run: cycles, with outside writes between them.
-use Rattle.std.specs.Prelude.{ℕ, ◌+◌, ◌==◌, ◌&&◌, if◌then◌else◌, List, [], ◌∷◌, Option, Some, None, option_and_then, nat_lt, slice_get, unwrap_or}
+use Rattle.std.specs.Prelude.{ℕ, ◌+◌, ◌==◌, ◌&&◌, if◌then◌else◌, List, [], ◌∷◌, Option, Some, None, slice_get, unwrap_or}
 use Rattle.kat_value.specs.declared.value.Value.TheVariants.{Bits as Number}
 use Rattle.kat_value.specs.Operations.{is_number}
 use Rattle.kat_syntax.specs.declared.place.Place.{Place}
@@ -9,7 +9,7 @@ use Rattle.kat_syntax.specs.declared.decl.TypeName.TheVariants.{Bits}
 use Rattle.kat_syntax.specs.declared.decl.RegisterKind.{RegisterKind}
 use Rattle.kat_syntax.specs.declared.decl.RegisterKind.TheVariants.{Outside}
 use Rattle.kat_syntax.specs.Tables.{RegisterDecl, registers_of}
-use Rattle.kat_syntax.specs.Machine.{MachineState, Progress}
+use Rattle.kat_syntax.specs.Machine.{MachineState}
 use Rattle.kat_syntax.specs.Meaning.{set_register}
 use Rattle.kat_syntax.specs.Cycle.{CycleOutcome, Completed, OutOfCalls, FailedAt, cycle_of}
 

@@ -1,10 +1,9 @@
 -- The text of a run: a piece for each boundary and one for the end. It is said of the boundary states alone.
-use Rattle.std.specs.Prelude.{ℕ, zero, suc, Bool, true, false, ◌+◌, ◌-◌, ◌/◌, ◌%◌, if◌then◌else◌, nat_lt, List, [], ◌∷◌, ◌++◌, length, codes}
+use Rattle.std.specs.Prelude.{ℕ, zero, suc, true, false, ◌+◌, ◌-◌, ◌/◌, ◌%◌, if◌then◌else◌, nat_lt, List, [], ◌∷◌, ◌++◌, length, codes}
 use Rattle.std.specs.Fmt.{decimal}
 use Rattle.kat_value.specs.declared.value.Value.{Value}
 use Rattle.kat_value.specs.declared.value.Value.TheVariants.{Unit, Bool as Truth, Bits}
 use Rattle.kat_value.specs.Equality.{value_eq}
-use Rattle.kat_syntax.specs.declared.place.Place.{Place}
 use Rattle.kat_syntax.specs.declared.decl.Spec.{Spec}
 use Rattle.kat_syntax.specs.Tables.{Name}
 use Rattle.kat_syntax.specs.Machine.{MachineState}

@@ -6,6 +6,7 @@
 mod count;
 mod decl;
 mod expr;
+mod law;
 mod place;
 mod stm;
 
@@ -13,5 +14,6 @@ pub use count::{count_decl, count_expr, count_params, count_stm, count_type};
 pub use decl::{Decl, Param, RegisterKind, Spec, TypeName};
 pub use expr::Expr;
 pub use kat_value::Op;
+pub use law::{text_tells_its_end, text_tells_states};
 pub use place::Place;
 pub use stm::Stm;

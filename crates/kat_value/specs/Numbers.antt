@@ -19,7 +19,8 @@ signed w n = if has_top_bit w n then pos n -ℤ pos (2 ^ w) else pos n
 abbrev pub sign_extended : ℕ → ℕ → ℕ → ℕ
 sign_extended w v n = if has_top_bit w n then n + (2 ^ v - 2 ^ w) else n
 
--- the number that an operation on bits gives; w is the width of the arguments, and for `Cat` of the second
+-- the number that an operation on bits gives, 0 where it is no such operation; w is the width of the arguments, for
+-- `Cat` of the second
 abbrev pub number_of_op : Op → ℕ → ℕ → ℕ → ℕ
 number_of_op Eq w a b = number_of_truth (a == b)
 number_of_op Ult w a b = number_of_truth (nat_lt a b)
@@ -40,11 +41,7 @@ number_of_op (Slice hi lo) w a b = (a / 2 ^ lo) % 2 ^ (hi - lo + 1)
 number_of_op Cat w a b = a * 2 ^ w + b
 number_of_op (Zext v) w a b = a
 number_of_op (Sext v) w a b = sign_extended w v a
-number_of_op Not w a b = 0
-number_of_op And w a b = 0
-number_of_op Or w a b = 0
-number_of_op Ite w a b = 0
-number_of_op (Get of field) w a b = 0
+number_of_op _ w a b = 0
 
 -- w is a width of bits
 pub record IsWidth (w : ℕ) : Type 0 where
@@ -61,32 +58,19 @@ pub record AreNumbers (w a b : ℕ) : Type 0 where
   pub first : IsNumber w a
   pub second : IsNumber w b
 
--- the operation is one on bits, and takes these arguments without a fault
+-- the operation is one on bits, and takes these arguments without a fault; one with one argument does not look at b
 abbrev pub CanApply : Op → ℕ → ℕ → ℕ → Type 0
-CanApply Eq w a b = AreNumbers w a b
-CanApply Ult w a b = AreNumbers w a b
-CanApply Ule w a b = AreNumbers w a b
-CanApply Slt w a b = AreNumbers w a b
-CanApply Sle w a b = AreNumbers w a b
-CanApply Add w a b = AreNumbers w a b
-CanApply Sub w a b = AreNumbers w a b
-CanApply Mul w a b = AreNumbers w a b
-CanApply Band w a b = AreNumbers w a b
-CanApply Bor w a b = AreNumbers w a b
-CanApply Bxor w a b = AreNumbers w a b
-CanApply Bnot w a b = IsNumber w a
-CanApply Shl w a b = AreNumbers w a b
-CanApply Shr w a b = AreNumbers w a b
-CanApply Sar w a b = AreNumbers w a b
-CanApply (Slice hi lo) w a b = IsNumber w a × (lo ≤ hi) × (hi < w)
-CanApply Cat w a b = IsNumber w b × (a < 2 ^ (64 - w))
-CanApply (Zext v) w a b = IsNumber w a × (w ≤ v) × (v ≤ 64)
-CanApply (Sext v) w a b = IsNumber w a × (w ≤ v) × (v ≤ 64)
 CanApply Not w a b = ⊥
 CanApply And w a b = ⊥
 CanApply Or w a b = ⊥
 CanApply Ite w a b = ⊥
 CanApply (Get of field) w a b = ⊥
+CanApply Bnot w a b = IsNumber w a
+CanApply (Slice hi lo) w a b = IsNumber w a × (lo ≤ hi) × (hi < w)
+CanApply Cat w a b = IsNumber w b × (a < 2 ^ (64 - w))
+CanApply (Zext v) w a b = IsNumber w a × (w ≤ v) × (v ≤ 64)
+CanApply (Sext v) w a b = IsNumber w a × (w ≤ v) × (v ≤ 64)
+CanApply _ w a b = AreNumbers w a b
 
 -- the width that an operation on numbers of w bits gives; 1 for a truth, and for `Cat`, whose first width is not told, 64
 abbrev pub width_of_op : Op → ℕ → ℕ
@@ -95,22 +79,8 @@ width_of_op Ult w = 1
 width_of_op Ule w = 1
 width_of_op Slt w = 1
 width_of_op Sle w = 1
-width_of_op Add w = w
-width_of_op Sub w = w
-width_of_op Mul w = w
-width_of_op Band w = w
-width_of_op Bor w = w
-width_of_op Bxor w = w
-width_of_op Bnot w = w
-width_of_op Shl w = w
-width_of_op Shr w = w
-width_of_op Sar w = w
 width_of_op (Slice hi lo) w = hi - lo + 1
 width_of_op Cat w = 64
 width_of_op (Zext v) w = v
 width_of_op (Sext v) w = v
-width_of_op Not w = w
-width_of_op And w = w
-width_of_op Or w = w
-width_of_op Ite w = w
-width_of_op (Get of field) w = w
+width_of_op _ w = w

@@ -7,7 +7,7 @@ use std::alloc::{AllocError, Global};
 use std::test::Fail;
 
 #[test]
-fn comparisons_and_sums(rt: HostRuntime) {
+fn comparisons(rt: HostRuntime) {
     let cases = [
         (apply(Op::Eq, 8, 5, 5), 1),
         (apply(Op::Ult, 8, 0x80, 0x80), 0),
@@ -17,6 +17,15 @@ fn comparisons_and_sums(rt: HostRuntime) {
         (apply(Op::Slt, 8, 0x7f, 0x80), 0),
         (apply(Op::Sle, 8, 0x80, 0x80), 1),
         (apply(Op::Slt, 64, 0x8000_0000_0000_0000, 0), 1),
+    ];
+    for (at, (got, want)) in cases.into_iter().enumerate() {
+        assert_eq!(rt; got, want, "case {at}");
+    }
+}
+
+#[test]
+fn sums(rt: HostRuntime) {
+    let cases = [
         (apply(Op::Add, 8, 200, 100), 44),
         (apply(Op::Add, 64, 0xffff_ffff_ffff_ffff, 1), 0),
         (apply(Op::Sub, 8, 3, 5), 254),
@@ -33,9 +42,8 @@ fn comparisons_and_sums(rt: HostRuntime) {
 }
 
 #[test]
-fn shifts_and_parts(rt: HostRuntime) {
+fn shifts(rt: HostRuntime) {
     let cases = [
-        (apply(Op::Bnot, 8, 0x5a, 0), 0xa5),
         (apply(Op::Shl, 64, 1, 63), 0x8000_0000_0000_0000),
         (apply(Op::Shl, 64, 1, 64), 0),
         (apply(Op::Shr, 64, 0x8000_0000_0000_0000, 63), 1),
@@ -47,6 +55,16 @@ fn shifts_and_parts(rt: HostRuntime) {
             apply(Op::Sar, 64, 0x8000_0000_0000_0000, 64),
             0xffff_ffff_ffff_ffff,
         ),
+    ];
+    for (at, (got, want)) in cases.into_iter().enumerate() {
+        assert_eq!(rt; got, want, "case {at}");
+    }
+}
+
+#[test]
+fn parts(rt: HostRuntime) {
+    let cases = [
+        (apply(Op::Bnot, 8, 0x5a, 0), 0xa5),
         (
             apply(Op::Slice { hi: 63, lo: 56 }, 64, 0xdead_beef_cafe_f00d, 0),
             0xde,

@@ -1,0 +1,12 @@
+pub mod Digits
+pub mod Text
+pub mod ReadsOn
+pub mod Trees
+pub mod Goes
+pub mod Words
+pub mod Lexing
+pub mod Outcome
+pub mod Sound
+pub mod Exact
+pub mod Owed
+pub mod Numbers
