@@ -1,5 +1,5 @@
 -- The text of a run, boundary by boundary.
-use Rattle.std.proofs.Common.{◌≡◌, ℕ, zero, suc, ◌+◌, ◌-◌, refl, ap, sym, ◌∙◌, subst, arith, add-zero, List, [], ◌∷◌, ◌++◌, length, take, drop, append_assoc, Option, Some, None, Result, Ok, Err, replicate}
+use Rattle.std.proofs.Common.{◌≡◌, ℕ, zero, suc, ◌+◌, ◌-◌, refl, ap, sym, ◌∙◌, arith, add-zero, List, [], ◌∷◌, ◌++◌, length, take, drop, append_assoc, Option, Some, None, Result, Ok, Err, replicate}
 use Rattle.std.proofs.lemmas.List.{append-nil, take-append-drop}
 use Rattle.std.proofs.Math.Seq.{take-append_seam}
 use Rattle.std.specs.Result.{OnErr}
@@ -10,8 +10,8 @@ use Rattle.kat_syntax.specs.declared.decl.Spec.{Spec}
 use Rattle.kat_syntax.specs.Tables.{Name}
 use Rattle.kat_syntax.specs.Machine.{MachineState, Progress}
 use Rattle.kat_syntax.specs.Cycle.{register_names, CycleOutcome, Completed, OutOfCalls, FailedAt, cycle_of}
-use Rattle.kat_syntax.specs.Run.{Event, Cycle, Run, RunEnd, Ended, OutIn, FailedIn, with_boundary, after_cycle, run_from}
-use Rattle.kat_syntax.specs.StateText.{all_lines, changed_lines, boundary_piece, later_pieces, boundary_pieces, end_piece, joined, boundary_text_of, state_text_of}
+use Rattle.kat_syntax.specs.Run.{Cycle, Run, RunEnd, Ended, OutIn, FailedIn, with_boundary, after_cycle, run_from}
+use Rattle.kat_syntax.specs.StateText.{all_lines, changed_lines, boundary_piece, later_pieces, boundary_pieces, end_piece, joined, boundary_text_of}
 use Rattle.kat_top.specs.Runner.{run_of_cycles, text_for_end, text_owed, EndsRun}
 use Rattle.kat_top.specs.declared.runner.RunEnd.TheVariants.{Out, Failed}
 
