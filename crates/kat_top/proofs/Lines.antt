@@ -1,5 +1,5 @@
 -- The lines of registers, one at a time.
-use Rattle.std.proofs.Common.{◌≡◌, ℕ, zero, suc, ◌+◌, ◌-◌, ◌/◌, ◌%◌, ◌<◌, ◌≤◌, min, refl, ap, sym, ◌∙◌, arith, add-one, true, false, if◌then◌else◌, List, [], ◌∷◌, ◌++◌, length, drop, get_or, drop-cons}
+use Rattle.std.proofs.Common.{◌≡◌, ℕ, zero, suc, ◌+◌, ◌-◌, ◌/◌, ◌%◌, ◌<◌, ◌≤◌, min, refl, ap, sym, ◌∙◌, arith, add-one, if◌then◌else◌, List, [], ◌∷◌, ◌++◌, length, drop, get_or, drop-cons}
 use Rattle.std.proofs.lemmas.List.{drop_all}
 use Rattle.kat_value.specs.declared.value.Value.{Value}
 use Rattle.kat_value.specs.Equality.{value_eq}
@@ -48,10 +48,6 @@ module _ {T : Type 0} (xs : List T) (i : ℕ) (x : T) where
   front_of_drop : i < length xs → x ≡ get_or xs i x → drop i xs ≡ x ∷ drop (i + 1) xs
   front_of_drop h x_is = rw (add-one, drop-cons xs i x) (ap (λ y. y ∷ drop (suc i) xs) (sym x_is))
 
--- what is read within a list is the same whatever stands for what is past its end
-get_or-own : {T : Type 0} (xs : List T) (i : ℕ) (d : T) → i < length xs → get_or xs i d ≡ get_or xs i (get_or xs i d)
-get_or-own xs i d h = cc (drop-cons xs i d h, drop-cons xs i (get_or xs i d) h)
-
 -- the line of the register at i, and the lines behind it
 pub all_lines-at : (names : List Name) (values : List Value) (i : ℕ) (name : Name) (value : Value) →
     i < length names → i < length values → name ≡ get_or names i name → value ≡ get_or values i value →
@@ -60,7 +56,8 @@ all_lines-at names values i name value n v name_is value_is =
     ap (λ ns. all_lines ns (drop i values)) (front_of_drop names i name n name_is)
     ∙ ap (all_lines (name ∷ drop (i + 1) names)) (front_of_drop values i value v value_is)
 
-changed_lines-at : (names : List Name) (before after : List Value) (i : ℕ) (name : Name) (old new : Value) →
+-- the line of the register at i, if its value is another than before, and the lines behind it
+pub changed_lines-at : (names : List Name) (before after : List Value) (i : ℕ) (name : Name) (old new : Value) →
     i < length names → i < length before → i < length after →
     name ≡ get_or names i name → old ≡ get_or before i old → new ≡ get_or after i new →
     changed_lines (drop i names) (drop i before) (drop i after)
@@ -69,24 +66,3 @@ changed_lines-at names before after i name old new n b a name_is old_is new_is =
     ap (λ ns. changed_lines ns (drop i before) (drop i after)) (front_of_drop names i name n name_is)
     ∙ ap (λ vs. changed_lines (name ∷ drop (i + 1) names) vs (drop i after)) (front_of_drop before i old b old_is)
     ∙ ap (changed_lines (name ∷ drop (i + 1) names) (old ∷ drop (i + 1) before)) (front_of_drop after i new a new_is)
-
--- the register at i has another value than before
-pub changed_lines-changed : (names : List Name) (before after : List Value) (i : ℕ) (name : Name) (old new : Value) →
-    i < length names → i < length before → i < length after →
-    name ≡ get_or names i name → old ≡ get_or before i old → new ≡ get_or after i new → value_eq old new ≡ false →
-    changed_lines (drop i names) (drop i before) (drop i after)
-    ≡ register_line name new ++ changed_lines (drop (i + 1) names) (drop (i + 1) before) (drop (i + 1) after)
-changed_lines-changed names before after i name old new n b a name_is old_is new_is differ =
-    changed_lines-at names before after i name old new n b a name_is old_is new_is
-    ∙ ap (λ t. (if t then [] else register_line name new) ++ changed_lines (drop (i + 1) names) (drop (i + 1) before) (drop (i + 1) after)) differ
-
--- the register at i has the value that it had
-pub changed_lines-same : (names : List Name) (before after : List Value) (i : ℕ) (old new : Value) →
-    i < length names → i < length before → i < length after →
-    old ≡ get_or before i old → new ≡ get_or after i new → value_eq old new ≡ true →
-    changed_lines (drop i names) (drop i before) (drop i after)
-    ≡ changed_lines (drop (i + 1) names) (drop (i + 1) before) (drop (i + 1) after)
-changed_lines-same names before after i old new n b a old_is new_is same =
-    let name : Name = get_or names i [] in
-    changed_lines-at names before after i name old new n b a (get_or-own names i [] n) old_is new_is
-    ∙ ap (λ t. (if t then [] else register_line name new) ++ changed_lines (drop (i + 1) names) (drop (i + 1) before) (drop (i + 1) after)) same

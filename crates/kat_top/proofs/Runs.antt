@@ -1,5 +1,5 @@
 -- The text of a run, boundary by boundary.
-use Rattle.std.proofs.Common.{◌≡◌, ℕ, zero, suc, ◌+◌, ◌-◌, refl, ap, sym, ◌∙◌, subst, arith, add-zero, List, [], ◌∷◌, ◌++◌, length, take, drop, append_assoc, Option, Some, None, Result, Ok, Err, replicate}
+use Rattle.std.proofs.Common.{◌≡◌, ℕ, zero, suc, ◌+◌, ◌-◌, refl, ap, sym, ◌∙◌, arith, add-zero, List, [], ◌∷◌, ◌++◌, length, take, drop, append_assoc, Option, Some, None, Result, Ok, Err, replicate}
 use Rattle.std.proofs.lemmas.List.{append-nil, take-append-drop}
 use Rattle.std.proofs.Math.Seq.{take-append_seam}
 use Rattle.std.specs.Result.{OnErr}
@@ -10,10 +10,10 @@ use Rattle.kat_syntax.specs.declared.decl.Spec.{Spec}
 use Rattle.kat_syntax.specs.Tables.{Name}
 use Rattle.kat_syntax.specs.Machine.{MachineState, Progress}
 use Rattle.kat_syntax.specs.Cycle.{register_names, CycleOutcome, Completed, OutOfCalls, FailedAt, cycle_of}
-use Rattle.kat_syntax.specs.Run.{Event, Cycle, Run, RunEnd, Ended, OutIn, FailedIn, with_boundary, after_cycle, run_from, run_of}
-use Rattle.kat_syntax.specs.StateText.{all_lines, changed_lines, boundary_piece, later_pieces, boundary_pieces, end_piece, joined, boundary_text_of, state_text_of}
-use Rattle.kat_top.specs.Runner.{text_for_end, text_owed, EndsRun}
-use Rattle.kat_top.specs.declared.runner.RunEnd.TheVariants.{Ended as EndedAnswer, Out, Failed}
+use Rattle.kat_syntax.specs.Run.{Cycle, Run, RunEnd, Ended, OutIn, FailedIn, with_boundary, after_cycle, run_from}
+use Rattle.kat_syntax.specs.StateText.{all_lines, changed_lines, boundary_piece, later_pieces, boundary_pieces, end_piece, joined, boundary_text_of}
+use Rattle.kat_top.specs.Runner.{run_of_cycles, text_for_end, text_owed, EndsRun}
+use Rattle.kat_top.specs.declared.runner.RunEnd.TheVariants.{Out, Failed}
 
 -- what is written behind a boundary with this state, from the outcome of the cycle behind it, which is cycle k
 abbrev pub text_after : List Name → ℕ → MachineState → CycleOutcome → (MachineState → List ℕ) → List ℕ
@@ -117,6 +117,12 @@ pub grew_front : (old now : Option (List ℕ)) (front rest whole : List ℕ) →
 grew_front old now front rest whole told is =
     (length front, told ∙ ap (with_bytes old) (sym (take-append_seam front rest) ∙ ap (take (length front)) is))
 
+-- contents that grew by a part of the front grew by a prefix of the whole
+grew_part : (old now : Option (List ℕ)) (piece later whole : List ℕ) → Grew old now piece → piece ++ later ≡ whole → Grew old now whole
+grew_part old now piece later whole grew is =
+    grew_front old now (take grew.0 piece) (drop grew.0 piece ++ later) whole grew.1
+    (sym (append_assoc (take grew.0 piece) (drop grew.0 piece) later) ∙ ap (λ p. p ++ later) (take-append-drop grew.0 piece) ∙ is)
+
 -- the contents have the front of the whole text at their end, and the rest is still to be written
 pub record Owes (whole : List ℕ) (end : RunEnd) (old now : Option (List ℕ)) (rest : List ℕ) (rest_end : RunEnd) : Type 0 where
   pub front : List ℕ
@@ -155,82 +161,75 @@ module _ (whole : List ℕ) (end : RunEnd) (old now : Option (List ℕ)) (rest :
       ∙ ap (λ r. owes.front ++ r) (sym (append_assoc part (drop grew.0 piece) later) ∙ ap (λ p. p ++ later) (take-append-drop grew.0 piece) ∙ sym rest_is)
       ∙ owes.text_is)
 
--- what is owed at a boundary of a run
+-- what is owed at boundary k of a run of so many cycles, which has this state, with so many cycles left
 abbrev pub OwesAt : Spec → ℕ → MachineState → ℕ → Option (List ℕ) → Option (List ℕ) → ℕ → MachineState → ℕ → Type 0
 OwesAt spec calls start cycles old now k state left =
-    Owes (text_owed spec (run_of spec calls start (replicate cycles Cycle))) (run_of spec calls start (replicate cycles Cycle)).end old now
+    Owes (text_owed spec (run_of_cycles spec calls start cycles)) (run_of_cycles spec calls start cycles).end old now
     (text_behind spec calls k state left) (end_behind spec calls k state left)
 
 module _ (spec : Spec) (calls : ℕ) (start : MachineState) (cycles : ℕ) (old : Option (List ℕ)) where
   first_is : boundary_piece 0 (all_lines (register_names spec.decls) start.registers) ++ text_behind spec calls 0 start cycles
-      ≡ text_owed spec (run_of spec calls start (replicate cycles Cycle))
+      ≡ text_owed spec (run_of_cycles spec calls start cycles)
   first_is = text_owed-is spec start (text_behind spec calls 0 start cycles) (end_behind spec calls 0 start cycles)
-      (run_of spec calls start (replicate cycles Cycle)) (goes_on spec calls cycles 0 start)
+      (run_of_cycles spec calls start cycles) (goes_on spec calls cycles 0 start)
 
-  -- boundary 0 is written
-  pub owes_at-start : (now : Option (List ℕ)) (values : List Value) (names : List Name) (left : ℕ) → values ≡ start.registers → names ≡ register_names spec.decls → left ≡ cycles →
-      now ≡ with_bytes old (boundary_piece 0 (all_lines names values)) → OwesAt spec calls start cycles old now 0 start left
-  owes_at-start now values names left values_is names_is left_is wrote =
-      let piece : List ℕ = boundary_piece 0 (all_lines (register_names spec.decls) start.registers) in
-      record {
-        front = piece;
-        told = wrote ∙ ap (λ vs. with_bytes old (boundary_piece 0 (all_lines names vs))) values_is ∙ ap (λ ns. with_bytes old (boundary_piece 0 (all_lines ns start.registers))) names_is;
-        text_is = ap (λ n. piece ++ text_behind spec calls 0 start n) left_is ∙ first_is;
-        end_is = (goes_on spec calls cycles 0 start).end_is ∙ ap (end_behind spec calls 0 start) (sym left_is);
-      }
+  -- boundary 0 is written, by a printer that has the names and the values
+  module _ (now : Option (List ℕ)) (values : List Value) (names : List Name) (values_is : values ≡ start.registers) (names_is : names ≡ register_names spec.decls) where
+    start_is : boundary_piece 0 (all_lines names values) ≡ boundary_piece 0 (all_lines (register_names spec.decls) start.registers)
+    start_is = ap (λ vs. boundary_piece 0 (all_lines names vs)) values_is ∙ ap (λ ns. boundary_piece 0 (all_lines ns start.registers)) names_is
 
-  -- a part of boundary 0 is written
-  pub start-part : (now : Option (List ℕ)) (values : List Value) (names : List Name) → values ≡ start.registers → names ≡ register_names spec.decls →
-      Grew old now (boundary_piece 0 (all_lines names values)) → Grew old now (text_owed spec (run_of spec calls start (replicate cycles Cycle)))
-  start-part now values names values_is names_is grew =
-      let piece : List ℕ = boundary_piece 0 (all_lines (register_names spec.decls) start.registers) in
-      let same : boundary_piece 0 (all_lines names values) ≡ piece =
-      ap (λ vs. boundary_piece 0 (all_lines names vs)) values_is ∙ ap (λ ns. boundary_piece 0 (all_lines ns start.registers)) names_is in
-      let later : List ℕ = text_behind spec calls 0 start cycles in
-      grew_front old now (take grew.0 piece) (drop grew.0 piece ++ later) (text_owed spec (run_of spec calls start (replicate cycles Cycle)))
-      (grew.1 ∙ ap (λ p. with_bytes old (take grew.0 p)) same)
-      (sym (append_assoc (take grew.0 piece) (drop grew.0 piece) later) ∙ ap (λ p. p ++ later) (take-append-drop grew.0 piece) ∙ first_is)
+    -- the whole piece
+    pub owes_at-start : (left : ℕ) → left ≡ cycles → now ≡ with_bytes old (boundary_piece 0 (all_lines names values)) → OwesAt spec calls start cycles old now 0 start left
+    owes_at-start left left_is wrote =
+        let piece : List ℕ = boundary_piece 0 (all_lines (register_names spec.decls) start.registers) in
+        record {
+          front = piece;
+          told = wrote ∙ ap (with_bytes old) start_is;
+          text_is = ap (λ n. piece ++ text_behind spec calls 0 start n) left_is ∙ first_is;
+          end_is = (goes_on spec calls cycles 0 start).end_is ∙ ap (end_behind spec calls 0 start) (sym left_is);
+        }
+
+    -- a part of it
+    pub start-part : Grew old now (boundary_piece 0 (all_lines names values)) → Grew old now (text_owed spec (run_of_cycles spec calls start cycles))
+    start-part grew =
+        grew_part old now (boundary_piece 0 (all_lines names values)) (text_behind spec calls 0 start cycles) (text_owed spec (run_of_cycles spec calls start cycles)) grew
+        (ap (λ p. p ++ text_behind spec calls 0 start cycles) start_is ∙ first_is)
 
   module _ (now : Option (List ℕ)) (k : ℕ) (state : MachineState) (left : ℕ) (owes : OwesAt spec calls start cycles old now k state left) where
     -- memory runs out in a cycle
-    pub owes_at-nothing : Grew old now (text_owed spec (run_of spec calls start (replicate cycles Cycle)))
+    pub owes_at-nothing : Grew old now (text_owed spec (run_of_cycles spec calls start cycles))
     owes_at-nothing = owes-nothing _ _ old now _ _ owes
 
     -- a cycle is left
     module _ (more : ℕ) (some : left ≡ suc more) where
-      text_is : text_behind spec calls k state left
-          ≡ text_after (register_names spec.decls) (k + 1) state (cycle_of spec calls state) (λ next. text_behind spec calls (k + 1) next more)
-      text_is = ap (text_behind spec calls k state) some
-
-      end_is : end_behind spec calls k state left ≡ end_after (k + 1) (cycle_of spec calls state) (λ next. end_behind spec calls (k + 1) next more)
-      end_is = ap (end_behind spec calls k state) some
-
       text_by : (outcome : CycleOutcome) → cycle_of spec calls state ≡ outcome →
           text_behind spec calls k state left ≡ text_after (register_names spec.decls) (k + 1) state outcome (λ next. text_behind spec calls (k + 1) next more)
-      text_by outcome e = text_is ∙ ap (λ (o : CycleOutcome). text_after (register_names spec.decls) (k + 1) state o (λ next. text_behind spec calls (k + 1) next more)) e
+      text_by outcome e =
+          ap (text_behind spec calls k state) some
+          ∙ ap (λ (o : CycleOutcome). text_after (register_names spec.decls) (k + 1) state o (λ next. text_behind spec calls (k + 1) next more)) e
 
       end_by : (outcome : CycleOutcome) → cycle_of spec calls state ≡ outcome →
           end_behind spec calls k state left ≡ end_after (k + 1) outcome (λ next. end_behind spec calls (k + 1) next more)
-      end_by outcome e = end_is ∙ ap (λ (o : CycleOutcome). end_after (k + 1) o (λ next. end_behind spec calls (k + 1) next more)) e
+      end_by outcome e =
+          ap (end_behind spec calls k state) some
+          ∙ ap (λ (o : CycleOutcome). end_after (k + 1) o (λ next. end_behind spec calls (k + 1) next more)) e
 
       -- the cycle ran out of calls
-      pub owes_at-out : cycle_of spec calls state ≡ OutOfCalls →
-          EndsRun (Out (k + 1)) spec (run_of spec calls start (replicate cycles Cycle)) old now
+      pub owes_at-out : cycle_of spec calls state ≡ OutOfCalls → EndsRun (Out (k + 1)) spec (run_of_cycles spec calls start cycles) old now
       owes_at-out e =
-          let end_out : (run_of spec calls start (replicate cycles Cycle)).end ≡ OutIn (k + 1) = owes.end_is ∙ end_by OutOfCalls e in (
+          let end_out : (run_of_cycles spec calls start cycles).end ≡ OutIn (k + 1) = owes.end_is ∙ end_by OutOfCalls e in (
             end_out,
             owes-done _ _ old now _ _ owes (text_by OutOfCalls e)
-                ∙ ap (λ (r : RunEnd). with_bytes old (text_for_end spec (run_of spec calls start (replicate cycles Cycle)) r)) end_out,
+                ∙ ap (λ (r : RunEnd). with_bytes old (text_for_end spec (run_of_cycles spec calls start cycles) r)) end_out,
           )
 
       -- the cycle failed
-      pub owes_at-failed : (place : Place) → cycle_of spec calls state ≡ FailedAt place →
-          EndsRun (Failed (k + 1) place) spec (run_of spec calls start (replicate cycles Cycle)) old now
+      pub owes_at-failed : (place : Place) → cycle_of spec calls state ≡ FailedAt place → EndsRun (Failed (k + 1) place) spec (run_of_cycles spec calls start cycles) old now
       owes_at-failed place e =
-          let end_failed : (run_of spec calls start (replicate cycles Cycle)).end ≡ FailedIn (k + 1) place = owes.end_is ∙ end_by (FailedAt place) e in (
+          let end_failed : (run_of_cycles spec calls start cycles).end ≡ FailedIn (k + 1) place = owes.end_is ∙ end_by (FailedAt place) e in (
             end_failed,
             owes-done _ _ old now _ _ owes (text_by (FailedAt place) e)
-                ∙ ap (λ (r : RunEnd). with_bytes old (text_for_end spec (run_of spec calls start (replicate cycles Cycle)) r)) end_failed,
+                ∙ ap (λ (r : RunEnd). with_bytes old (text_for_end spec (run_of_cycles spec calls start cycles) r)) end_failed,
           )
 
       -- the cycle completed, and its boundary is printed behind the one before
@@ -246,36 +245,21 @@ module _ (spec : Spec) (calls : ℕ) (start : MachineState) (cycles : ℕ) (old 
         rest_is : text_behind spec calls k state left ≡ boundary_piece (k + 1) (changed_lines names before values) ++ text_behind spec calls (k + 1) progress.state more
         rest_is = text_by (Completed progress) e ∙ ap (λ p. p ++ text_behind spec calls (k + 1) progress.state more) (sym piece_is)
 
-        -- the whole piece is written
+        -- the whole piece
         pub owes_at-next : after ≡ with_bytes now (boundary_piece (k + 1) (changed_lines names before values)) →
             OwesAt spec calls start cycles old after (k + 1) progress.state more
         owes_at-next wrote = owes-piece _ _ old now _ _ owes after _ _ _ wrote rest_is (end_by (Completed progress) e)
 
-        -- a part of it is written
-        pub owes_at-part : Grew now after (boundary_piece (k + 1) (changed_lines names before values)) →
-            Grew old after (text_owed spec (run_of spec calls start (replicate cycles Cycle)))
-        owes_at-part grew = owes-part _ _ old now _ _ owes after _ _ grew rest_is
+        -- a part of it
+        pub next-part : Grew now after (boundary_piece (k + 1) (changed_lines names before values)) → Grew old after (text_owed spec (run_of_cycles spec calls start cycles))
+        next-part grew = owes-part _ _ old now _ _ owes after _ _ grew rest_is
 
-    -- no cycle is left
-    module _ (none : left ≡ 0) (after : Option (List ℕ)) (last : ℕ) (last_is : last ≡ k) where
-      last_rest : text_behind spec calls k state left ≡ end_piece last Ended ++ []
-      last_rest = ap (text_behind spec calls k state) none ∙ ap (λ n. end_piece n Ended) (sym last_is) ∙ sym (append-nil (end_piece last Ended))
-
-      -- the last piece is written
-      pub owes_at-end : after ≡ with_bytes now (end_piece last Ended) →
-          EndsRun EndedAnswer spec (run_of spec calls start (replicate cycles Cycle)) old after
-      owes_at-end wrote =
-          let end_ended : (run_of spec calls start (replicate cycles Cycle)).end ≡ Ended = owes.end_is ∙ ap (end_behind spec calls k state) none in
-          let owes_none : Owes (text_owed spec (run_of spec calls start (replicate cycles Cycle))) (run_of spec calls start (replicate cycles Cycle)).end old after [] Ended =
-          owes-piece _ _ old now _ _ owes after (end_piece last Ended) [] Ended wrote last_rest (ap (end_behind spec calls k state) none) in (
-            end_ended,
-            owes-done _ _ old after _ _ owes_none refl
-                ∙ ap (λ (r : RunEnd). with_bytes old (text_for_end spec (run_of spec calls start (replicate cycles Cycle)) r)) end_ended,
-          )
-
-      -- a part of it is written
-      pub end-part : Grew now after (end_piece last Ended) → Grew old after (text_owed spec (run_of spec calls start (replicate cycles Cycle)))
-      end-part grew = owes-part _ _ old now _ _ owes after _ _ grew last_rest
+    -- no cycle is left, and a part of the last piece is written
+    pub end-part : left ≡ 0 → (after : Option (List ℕ)) (last : ℕ) → last ≡ k → Grew now after (end_piece last Ended) →
+        Grew old after (text_owed spec (run_of_cycles spec calls start cycles))
+    end-part none after last last_is grew =
+        owes-part _ _ old now _ _ owes after (end_piece last Ended) [] grew
+        (ap (text_behind spec calls k state) none ∙ ap (λ n. end_piece n Ended) (sym last_is) ∙ sym (append-nil (end_piece last Ended)))
 
 -- what holds anyway holds where the answer is an error
 pub on_err : {T E P : Type 0} (r : Result T E) → P → OnErr r P

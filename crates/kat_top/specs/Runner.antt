@@ -1,12 +1,16 @@
 -- What the runner writes of a run, and what its answer says.
-use Rattle.std.specs.Prelude.{◌≡◌, ℕ, List, ◌++◌, Option}
+use Rattle.std.specs.Prelude.{◌≡◌, ℕ, List, Option, replicate}
 use Rattle.kat_io.specs.Contents.{with_bytes, Grew}
-use Rattle.kat_io.specs.Counts.{Rose}
 use Rattle.kat_syntax.specs.declared.decl.Spec.{Spec}
-use Rattle.kat_syntax.specs.Run.{Run, RunEnd, Ended, OutIn, FailedIn}
+use Rattle.kat_syntax.specs.Machine.{MachineState}
+use Rattle.kat_syntax.specs.Run.{Cycle, Run, RunEnd, Ended, OutIn, FailedIn, run_of}
 use Rattle.kat_syntax.specs.StateText.{boundary_text_of, state_text_of}
 use Rattle.kat_top.specs.declared.runner.RunEnd.{RunEnd as Answer}
 use Rattle.kat_top.specs.declared.runner.RunEnd.TheVariants.{Ended as EndedAnswer, Out, Failed, WriteFault, Memory}
+
+-- the run of so many cycles, with no outside write between them
+abbrev pub run_of_cycles : Spec → ℕ → MachineState → ℕ → Run
+run_of_cycles spec calls start cycles = run_of spec calls start (replicate cycles Cycle)
 
 -- the text that the runner owes: the boundaries, and the last piece where the run ended
 abbrev pub text_for_end : Spec → Run → RunEnd → List ℕ

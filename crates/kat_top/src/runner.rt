@@ -1,12 +1,12 @@
 // The run of a machine, with its states written as it goes.
 
-ghost use Rattle.std.specs.Prelude.{◌≡◌, ◌≤◌, OnOk, OnErr, IfOk, IfErr, replicate};
+ghost use Rattle.std.specs.Prelude.{◌≡◌, ◌≤◌, OnOk, OnErr, IfOk, IfErr};
 ghost use Rattle.kat_io.specs.Contents.{with_bytes, Grew};
 ghost use Rattle.kat_io.specs.Counts.{Rose};
 ghost use Rattle.kat_io.specs.SinkErrors.{IfWriteFailed};
-ghost use Rattle.kat_syntax.specs.Run.{Cycle, Ended, run_of};
+ghost use Rattle.kat_syntax.specs.Run.{Ended};
 ghost use Rattle.kat_syntax.specs.StateText.{all_lines, changed_lines, boundary_piece, end_piece};
-ghost use Rattle.kat_top.specs.Runner.{text_owed, EndsRun, IfWriteFault};
+ghost use Rattle.kat_top.specs.Runner.{run_of_cycles, text_owed, EndsRun, IfWriteFault};
 
 use crate::checked::Checked;
 use crate::cycle::{CycleEnd, cycle};
@@ -136,10 +136,10 @@ fn run_cycles<K: Sink>(
     sink: &mut K,
 ) -> Result<RunEnd, SinkError>
     ensures faults { K.faults sink.old ≤ K.faults sink.new }
-    ensures ok { IfOk result (λ end. EndsRun end machine.now (run_of machine.now calls state (replicate cycles Cycle)) (K.contents sink.old) (K.contents sink.new)) }
+    ensures ok { IfOk result (λ end. EndsRun end machine.now (run_of_cycles machine.now calls state cycles) (K.contents sink.old) (K.contents sink.new)) }
     ensures end { IfOk result (λ end. IfWriteFault end ⊥) }
     ensures failed { IfErr result (λ e. IfWriteFailed e (Rose (K.faults sink.old) (K.faults sink.new))) }
-    ensures err { OnErr result (Grew (K.contents sink.old) (K.contents sink.new) (text_owed machine.now (run_of machine.now calls state (replicate cycles Cycle)))) }
+    ensures err { OnErr result (Grew (K.contents sink.old) (K.contents sink.new) (text_owed machine.now (run_of_cycles machine.now calls state cycles))) }
 {
     let names = machine.register_names();
     let mut printer = Printer::start(alloc, names, state.registers(), sink)?;
@@ -172,7 +172,7 @@ pub fn run<K: Sink>(
     sink: &mut K,
 ) -> RunEnd
     ensures faults { K.faults sink.old ≤ K.faults sink.new }
-    ensures ends { EndsRun result machine.now (run_of machine.now calls state (replicate cycles Cycle)) (K.contents sink.old) (K.contents sink.new) }
+    ensures ends { EndsRun result machine.now (run_of_cycles machine.now calls state cycles) (K.contents sink.old) (K.contents sink.new) }
     ensures failed { IfWriteFault result (Rose (K.faults sink.old) (K.faults sink.new)) }
 {
     match run_cycles(alloc, machine, state, cycles, calls, sink) {

@@ -1,6 +1,7 @@
 // The printed text of a run. Each function adds text at the end.
 
-ghost use Rattle.std.specs.Prelude.{◌≡◌, ◌++◌, ◌<◌, [], OnOk};
+ghost use Rattle.std.specs.Prelude.{◌≡◌, ◌++◌, ◌<◌, [], OnOk, if◌then◌else◌};
+ghost use Rattle.kat_value.specs.Equality.{value_eq};
 ghost use Rattle.std.specs.Fmt.{decimal};
 ghost use Rattle.kat_syntax.specs.Run.{Ended, OutIn, FailedIn};
 ghost use Rattle.kat_syntax.specs.StateText.{hex_digit, hex_digits, text_of_value, register_line, all_lines, changed_lines, boundary_piece, end_piece};
@@ -79,6 +80,21 @@ pub fn push_all_lines(out: &mut Vec<u8>, names: &[Text], values: &[Value]) -> Re
     Ok(())
 }
 
+// The line of a register, where its value is not the one before.
+fn push_line_if_changed(
+    out: &mut Vec<u8>,
+    name: &Text,
+    before: &Value,
+    after: &Value,
+) -> Result<(), AllocError>
+    ensures { OnOk result (out.new.items ≡ out.old.items ++ (if value_eq before.now after.now then [] else register_line name.now after.now)) }
+{
+    if same_value(before, after) {
+        return Ok(());
+    }
+    push_register_line(out, name, after)
+}
+
 /// A line for each register whose value is not the one before.
 pub fn push_changed_lines(
     out: &mut Vec<u8>,
@@ -90,10 +106,7 @@ pub fn push_changed_lines(
 {
     let count = names.len().min(before.len()).min(after.len());
     for at in 0..count {
-        let value = &after[at];
-        if !same_value(&before[at], value) {
-            push_register_line(out, &names[at], value)?;
-        }
+        push_line_if_changed(out, &names[at], &before[at], &after[at])?;
     }
     Ok(())
 }

@@ -1,5 +1,5 @@
 use Rattle.std.proofs.Common.{◌-◌, ◌+◌, ◌∙◌, arith}
-use Rattle.kat_top.proofs.Runs.{owes_at-start, start-part, owes_at-nothing, owes_at-out, owes_at-failed, owes_at-next, owes_at-part, end-part, on_err}
+use Rattle.kat_top.proofs.Runs.{owes_at-start, start-part, owes_at-nothing, owes_at-out, owes_at-failed, owes_at-next, next-part, end-part, on_err}
 use Rattle.kat_top.proofs.runner.run_cycles.Goals as goal
 
 pub returns-in_err-printer-clause-err : goal.returns-in_err-printer-clause-err
@@ -12,7 +12,7 @@ loop-done-init g c = record {
   shown = c.in_ok-printer.ensures.shown ∙ c.registers.ensures;
   faults = c.start.ensures.faults;
   owes = owes_at-start c.args.machine.now c.args.calls c.args.state c.args.cycles (g.K.Sink.contents c.args.sink.now) (g.K.Sink.contents c.start.new.sink)
-      c.registers.result.now c.register_names-names.result.now (c.args.cycles - 0) c.registers.ensures c.register_names-names.ensures (omega arith) c.in_ok-printer.ensures.ok;
+      c.registers.result.now c.register_names-names.result.now c.registers.ensures c.register_names-names.ensures (c.args.cycles - 0) (omega arith) c.in_ok-printer.ensures.ok;
 }
 
 pub returns-in-Out-clause-ok : goal.returns-in-Out-clause-ok
@@ -34,7 +34,7 @@ returns-in-Memory-clause-err g c =
 
 pub returns-in_err-boundary-clause-err : goal.returns-in_err-boundary-clause-err
 returns-in_err-boundary-clause-err g c =
-    on_err _ (owes_at-part c.args.machine.now c.args.calls c.args.state c.args.cycles (g.K.Sink.contents c.args.sink.now) (g.K.Sink.contents c.loop-done.sink)
+    on_err _ (next-part c.args.machine.now c.args.calls c.args.state c.args.cycles (g.K.Sink.contents c.args.sink.now) (g.K.Sink.contents c.loop-done.sink)
     c.loop-done.done c.loop-done.state (c.args.cycles - c.loop-done.done) c.loop-done.invariant.owes (c.args.cycles - (c.loop-done.done + 1)) (omega arith)
     _ c.in-Done.ensures (g.K.Sink.contents c.boundary.new.sink) c.register_names-names.result.now c.loop-done.printer.shown c.registers-in-loop-done.result.now
     c.register_names-names.ensures c.loop-done.invariant.shown c.registers-in-loop-done.ensures c.in_err-boundary.ensures.err)
