@@ -6,4 +6,5 @@ pub mod Jobs
 pub mod Locals
 pub mod Runner
 pub mod Running
+pub mod Statuses
 pub mod Words

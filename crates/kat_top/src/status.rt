@@ -1,5 +1,8 @@
 // How the program ends.
 
+ghost use Rattle.std.specs.Prelude.{◌≡◌};
+ghost use Rattle.kat_top.specs.Statuses.{number_of_status};
+
 /// The status with which the program ends, in the order of the numbers, from 0.
 #[derive(Clone, Copy, Debug, PartialEq, Eq)]
 pub enum Status {
@@ -35,7 +38,7 @@ pub enum Status {
 impl Status {
     /// The number that the system is told: 0 for `Ok` to 13 for `Memory`.
     pub fn number(self) -> u8
-        ensures { result < 14 }
+        ensures { result ≡ number_of_status self }
     {
         self as u8
     }

@@ -1,0 +1,20 @@
+-- The numbers that the system is told.
+use Rattle.std.specs.Prelude.{ℕ}
+use Rattle.kat_top.specs.declared.status.Status.{Status}
+use Rattle.kat_top.specs.declared.status.Status.TheVariants as status
+
+abbrev pub number_of_status : Status → ℕ
+number_of_status status.Ok = 0
+number_of_status status.Refused = 1
+number_of_status status.Usage = 2
+number_of_status status.ReadFault = 3
+number_of_status status.WriteFault = 4
+number_of_status status.TooLong = 5
+number_of_status status.Form = 6
+number_of_status status.IllTyped = 7
+number_of_status status.Limit = 8
+number_of_status status.NotBooted = 9
+number_of_status status.Out = 10
+number_of_status status.Failed = 11
+number_of_status status.BadPoke = 12
+number_of_status status.Memory = 13
