@@ -1,5 +1,5 @@
 -- The state from which an image starts.
-use Rattle.std.specs.Prelude.{ℕ, if◌then◌else◌, nat_le, List, [], map}
+use Rattle.std.specs.Prelude.{if◌then◌else◌, nat_le, [], map}
 use Rattle.kat_value.specs.declared.value.Value.{Value}
 use Rattle.kat_value.specs.declared.value.Value.TheVariants.{Unit as UnitValue, Bits as Number}
 use Rattle.kat_syntax.specs.declared.decl.TypeName.{TypeName}
