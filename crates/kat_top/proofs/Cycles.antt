@@ -1,12 +1,10 @@
 -- A cycle is what the body of the step function does.
-use Rattle.std.proofs.Common.{◌≡◌, ℕ, zero, suc, ◌+◌, ◌-◌, ◌<◌, refl, ap, sym, ◌∙◌, subst, arith, List, [], ◌∷◌, Some, Option, unwrap_or}
-use Rattle.kat_value.specs.declared.value.Value.{Value}
-use Rattle.kat_syntax.specs.declared.decl.Decl.{Decl}
+use Rattle.std.proofs.Common.{◌≡◌, ℕ, suc, ◌-◌, ◌<◌, refl, ap, sym, ◌∙◌, arith, List, [], ◌∷◌, Some, Option, unwrap_or}
 use Rattle.kat_syntax.specs.declared.decl.Param.{Param}
 use Rattle.kat_syntax.specs.declared.decl.Spec.{Spec}
 use Rattle.kat_syntax.specs.declared.stm.Stm.{Stm}
-use Rattle.kat_syntax.specs.Tables.{Name, Function, function_from, step_of}
-use Rattle.kat_syntax.specs.Machine.{MachineState, Progress}
+use Rattle.kat_syntax.specs.Tables.{Function, function_from, step_of}
+use Rattle.kat_syntax.specs.Machine.{MachineState}
 use Rattle.kat_syntax.specs.Meaning.{Locals, Outcome, inside, meaning}
 use Rattle.kat_syntax.specs.Cycle.{register_names, bound, elsewhere, body_of, call_of, CycleOutcome, OutOfCalls, as_cycle, cycle_of}
 use Rattle.kat_top.specs.Checked.{IsStepFunction}

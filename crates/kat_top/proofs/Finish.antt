@@ -1,7 +1,7 @@
 -- What the parts of a call write and read makes what the call does.
-use Rattle.std.proofs.Common.{◌≡◌, ℕ, zero, suc, ◌+◌, ◌-◌, ◌++◌, ◌<◌, ◌≤◌, ◌⊎◌, ⊎_elim, refl, ap, sym, ◌∙◌, subst, List, [], ◌∷◌, length, take, min, map, Option, None, Some, append_assoc, arith}
+use Rattle.std.proofs.Common.{◌≡◌, ℕ, suc, ◌+◌, ◌-◌, ◌++◌, ⊎_elim, refl, ap, sym, ◌∙◌, List, [], ◌∷◌, length, take, min, map, Option, None, Some, append_assoc, arith}
 use Rattle.std.proofs.Math.Seq.{take-append-add, append_snoc}
-use Rattle.std.proofs.lemmas.List.{append-nil, take_min, take-append-le, length-take}
+use Rattle.std.proofs.lemmas.List.{append-nil, take_min, take-append-le}
 use Rattle.kat_io.specs.Contents.{with_bytes, Grew}
 use Rattle.kat_syntax.specs.declared.decl.Spec.{Spec}
 use Rattle.kat_syntax.specs.Tables.{Name}
@@ -11,7 +11,7 @@ use Rattle.kat_top.specs.declared.status.Status.{Status}
 use Rattle.kat_top.specs.declared.status.Status.TheVariants as status
 use Rattle.kat_top.specs.declared.files.Refusal.{Refusal}
 use Rattle.kat_top.specs.declared.files.Refusal.TheVariants.{Failed, Long, Unbuilt, Memory}
-use Rattle.kat_top.specs.Answer.{Answer, Gave, status_of, run_answer}
+use Rattle.kat_top.specs.Answer.{Gave, status_of, run_answer}
 use Rattle.kat_top.specs.Files.{AddsReads, NotedRefusal}
 use Rattle.kat_top.specs.Runner.{text_owed, text_for_end}
 

@@ -1,8 +1,8 @@
 -- The search for a function among the declarations.
-use Rattle.std.proofs.Common.{◌≡◌, ℕ, zero, suc, ◌+◌, ◌<◌, ◌∷◌, refl, ap, sym, ◌∙◌, arith, length, get_or, drop, List, Bool, true, false, Some, IsSome, if◌then◌else◌}
+use Rattle.std.proofs.Common.{◌≡◌, ℕ, suc, ◌+◌, ◌<◌, ◌∷◌, refl, ap, sym, ◌∙◌, arith, length, get_or, drop, List, true, false, IsSome, if◌then◌else◌}
 use Rattle.std.proofs.Math.Seq.{drop-cons}
 use Rattle.std.proofs.lemmas.Option.{slice_get_read}
-use Rattle.std.specs.Prelude.{slice_get, option_and_then}
+use Rattle.std.specs.Prelude.{option_and_then}
 use Rattle.kat_syntax.specs.declared.decl.Decl.{Decl}
 use Rattle.kat_syntax.specs.declared.decl.Decl.TheVariants.{Register, Fun, Step}
 use Rattle.kat_syntax.specs.Tables.{Name, function_at, function_from, is_function}

@@ -1,9 +1,9 @@
 -- How the parts of a statement make the whole.
-use Rattle.std.proofs.Common.{◌≡◌, ℕ, ◌+◌, ◌<◌, ◌≤◌, ◌∷◌, refl, ap, sym, ◌∙◌, subst, arith, Bool, true, false, if◌then◌else◌}
+use Rattle.std.proofs.Common.{◌≡◌, ℕ, ◌+◌, ◌≤◌, ◌∷◌, refl, ap, sym, ◌∙◌, arith, true, false, if◌then◌else◌}
 use Rattle.kat_value.specs.declared.value.Value.{Value}
 use Rattle.kat_syntax.specs.declared.expr.Expr.{Expr}
 use Rattle.kat_syntax.specs.declared.stm.Stm.{Stm}
-use Rattle.kat_syntax.specs.declared.stm.Stm.TheOpen.{Stm-F, Let, If}
+use Rattle.kat_syntax.specs.declared.stm.Stm.TheOpen.{Let, If}
 use Rattle.kat_syntax.specs.declared.stm.Stm.TheVariants.{Let as LetStm, If as IfStm}
 use Rattle.kat_syntax.specs.declared.stm.Stm.TheViews.{out-Stm, outs-Let, outs-If}
 use Rattle.kat_syntax.specs.declared.stm.Stm.TheFolds.{fold_out-Stm}

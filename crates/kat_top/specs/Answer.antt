@@ -1,5 +1,5 @@
 -- The answer that a call of the program owes, where nothing outside fails: a status and a text.
-use Rattle.std.specs.Prelude.{◌≡◌, ◌<◌, ◌≤◌, ℕ, ◌+◌, List, [], ◌∷◌, ◌++◌, length, codes, Option, Some, None, IfSome, Result, Ok, Err, replicate, take, map}
+use Rattle.std.specs.Prelude.{◌≡◌, ℕ, ◌+◌, List, [], ◌++◌, codes, Option, Some, None, Result, Ok, Err, replicate}
 use Rattle.std.specs.Fmt.{decimal}
 use Rattle.kat_io.specs.Contents.{with_bytes, Grew}
 use Rattle.kat_syntax.specs.declared.decl.Spec.{Spec}

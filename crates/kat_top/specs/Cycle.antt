@@ -1,6 +1,5 @@
 -- What an answer of `cycle` says.
 use Rattle.std.specs.Prelude.{◌≡◌}
-use Rattle.kat_syntax.specs.Machine.{Progress}
 use Rattle.kat_syntax.specs.Cycle.{CycleOutcome, Completed, OutOfCalls, FailedAt}
 use Rattle.kat_top.specs.declared.cycle.CycleEnd.{CycleEnd}
 use Rattle.kat_top.specs.declared.cycle.CycleEnd.TheVariants.{Done, Out, Fail, Memory}

@@ -1,7 +1,5 @@
 -- Locals as the list of their names and values.
-use Rattle.std.specs.Prelude.{List, [], ◌∷◌}
-use Rattle.kat_value.specs.declared.value.Value.{Value}
-use Rattle.kat_syntax.specs.Tables.{Name}
+use Rattle.std.specs.Prelude.{[], ◌∷◌}
 use Rattle.kat_syntax.specs.Meaning.{Locals as Scope}
 use Rattle.kat_top.specs.declared.locals.Locals.{Locals, fold-Locals}
 use Rattle.kat_top.specs.declared.locals.Locals.TheOpen.{Locals-F, Empty, More}

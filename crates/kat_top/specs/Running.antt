@@ -1,9 +1,8 @@
 -- What the interpreter keeps, seen as the meaning sees it.
 use Rattle.std.specs.Prelude.{ℕ, ◌+◌, ◌<◌}
 use Rattle.kat_syntax.specs.Machine.{Progress}
-use Rattle.kat_syntax.specs.Meaning.{Site, Here, There, Outcome, Done, Out, Fail}
+use Rattle.kat_syntax.specs.Meaning.{Here, There, Outcome, Done, Out, Fail}
 use Rattle.kat_top.specs.declared.running.Running.{Running}
-use Rattle.kat_top.specs.declared.running.Site.{Site as CodeSite}
 use Rattle.kat_top.specs.declared.running.Site.TheVariants.{Here as HereEnd, There as ThereEnd}
 use Rattle.kat_top.specs.declared.running.StmEnd.{StmEnd}
 use Rattle.kat_top.specs.declared.running.StmEnd.TheVariants.{Done as DoneEnd, Out as OutEnd, Fail as FailEnd}

@@ -112,7 +112,7 @@ impl Checked {
         let Ok(at) = self.registers.find(register.as_str()) else {
             return Ok(Value::Unit);
         };
-        match state.get(at) {
+        match state.reg(at) {
             Some(value) => copy_value(alloc, value),
             None => Ok(Value::Unit),
         }
@@ -123,7 +123,7 @@ impl Checked {
         ensures { state.new ≡ set_register (position_of (register_names self.now.decls) register.now) value state.old }
     {
         if let Ok(at) = self.registers.find(register.as_str()) {
-            state.set(at, value);
+            state.set_reg(at, value);
         }
     }
 }

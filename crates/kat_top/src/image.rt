@@ -44,7 +44,7 @@ impl Image {
 
     // Sets a register, which no line before has set, to a number that fits.
     fn set(&mut self, at: u32, number: u64) -> Result<(), TextError> {
-        let width = match self.state.get(at) {
+        let width = match self.state.reg(at) {
             Some(Value::Bits { width, .. }) => *width,
             _ => return Err(TextError::Unbuilt),
         };
@@ -55,7 +55,7 @@ impl Image {
             Some(set) if !*set => *set = true,
             _ => return Err(TextError::Unbuilt),
         }
-        self.state.set(at, Value::Bits { width, number });
+        self.state.set_reg(at, Value::Bits { width, number });
         Ok(())
     }
 }

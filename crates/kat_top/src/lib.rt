@@ -20,6 +20,8 @@ mod spec_reader;
 mod state;
 mod status;
 mod tables;
+#[cfg(test)]
+mod tests;
 mod text;
 mod tree;
 mod typing;

@@ -1,6 +1,6 @@
 // The state of a machine.
 
-ghost use Rattle.std.specs.Prelude.{◌≡◌, ◌<◌, [], length, IfOk, slice_get, slice_set, Some};
+ghost use Rattle.std.specs.Prelude.{◌≡◌, IfOk, slice_get, slice_set};
 ghost use Rattle.std.specs.Option.{option_copied};
 ghost use Rattle.kat_syntax.specs.Start.{first_value_of, start_of};
 
@@ -31,13 +31,6 @@ impl Model for State {
 }
 
 impl State {
-    /// The state with these values, one for each register in order of declaration.
-    pub fn new(registers: Values) -> State
-        ensures { result ≡ record { registers = registers; cells = [] } }
-    {
-        State { registers }
-    }
-
     /// The state in which every register has its first value: the number 0.
     pub fn start(alloc: Global, machine: &Checked) -> Result<State, AllocError>
         ensures { IfOk result (λ s. s ≡ start_of machine.now) }
@@ -58,36 +51,20 @@ impl State {
         self.registers.as_slice()
     }
 
-    /// The value of the register at this position.
-    pub fn reg(&self, r: u32) -> &Value
-        requires { r < length self.now.registers }
-        ensures { slice_get self.now.registers r ≡ Some result.now }
-    {
-        &self.registers.as_slice()[r as usize]
-    }
-
     /// The value of the register at this position, if there is one.
-    pub fn get(&self, r: u32) -> Option<&Value>
+    pub fn reg(&self, r: u32) -> Option<&Value>
         ensures { option_copied result ≡ slice_get self.now.registers r }
     {
         self.registers.get(r as usize)
     }
 
     /// Sets the register at this position, if there is one.
-    pub fn set(&mut self, r: u32, value: Value)
+    pub fn set_reg(&mut self, r: u32, value: Value)
         ensures { self.new ≡ record self.old { registers = slice_set self.old.registers r value } }
     {
         if (r as usize) < self.registers.len() {
             self.registers.set(r as usize, value);
         }
-    }
-
-    /// Sets the register at this position.
-    pub fn set_reg(&mut self, r: u32, value: Value)
-        requires { r < length self.old.registers }
-        ensures { self.new ≡ record self.old { registers = slice_set self.old.registers r value } }
-    {
-        self.registers.set(r as usize, value);
     }
 }
 

@@ -1,5 +1,5 @@
 -- Each end of `let` and `if` is the meaning's, by the parts.
-use Rattle.std.proofs.Common.{ap, ◌∙◌, sym, refl, subst, arith, true, false}
+use Rattle.std.proofs.Common.{ap, ◌∙◌, sym, refl, subst}
 use Rattle.kat_top.specs.Running.{progress_of, outcome_of, IsBelow}
 use Rattle.kat_top.specs.declared.running.StmEnd.TheVariants.{Out, Fail}
 use Rattle.kat_top.proofs.Parts.{let_done, let_not_done, if_true, if_false, within_let, within_first, within_then, within_otherwise}
