@@ -121,6 +121,7 @@ pub struct HostSink<W> {
 }
 
 impl<W: Write> HostSink<W> {
+    /// A sink over a writer that buffers nothing.
     pub fn new(writer: W) -> HostSink<W>
         ensures writer { writer_of result ≡ writer }
         ensures faults { ⟦<HostSink<W> as Sink>⟧.faults result ≡ 0 }

@@ -14,7 +14,7 @@ pub fn text_tells_states()
 {}
 
 /// The output of a run tells where it ends: where one text begins with the texts of two runs of one machine, they
-/// are the same run. So an output that was cut off is the output of no run. The machines are those of
+/// are the same run. So an output that was cut off is the output of no run of that machine. The machines are those of
 /// [`text_tells_states`]. The function does nothing: its contract is the law.
 #[tactic(auto, using(crate::proofs::TextPieces::beginning_tells_run))]
 pub fn text_tells_its_end()

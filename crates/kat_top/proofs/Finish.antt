@@ -1,5 +1,5 @@
 -- What the parts of a call write and read makes what the call does.
-use Rattle.std.proofs.Common.{◌≡◌, ℕ, suc, ◌+◌, ◌-◌, ◌++◌, ⊎_elim, refl, ap, sym, ◌∙◌, List, [], ◌∷◌, length, take, min, map, Option, None, Some, append_assoc, arith}
+use Rattle.std.proofs.Common.{◌≡◌, ℕ, suc, ◌+◌, ◌-◌, ◌++◌, ◌≤◌, ⊎_elim, refl, ap, sym, ◌∙◌, List, [], ◌∷◌, length, take, min, map, Option, None, Some, Result, Ok, Err, append_assoc, arith}
 use Rattle.std.proofs.Math.Seq.{take-append-add, append_snoc}
 use Rattle.std.proofs.lemmas.List.{append-nil, take_min, take-append-le}
 use Rattle.kat_io.specs.Contents.{with_bytes, Grew}
@@ -12,7 +12,8 @@ use Rattle.kat_top.specs.declared.status.Status.TheVariants as status
 use Rattle.kat_top.specs.declared.files.Refusal.{Refusal}
 use Rattle.kat_top.specs.declared.files.Refusal.TheVariants.{Failed, Long, Unbuilt, Memory}
 use Rattle.kat_top.specs.Answer.{Gave, status_of, run_answer}
-use Rattle.kat_top.specs.Files.{AddsReads, NotedRefusal}
+use Rattle.kat_top.specs.Files.{AddsReads, NotedRefusal, IfReadFailed, IfLong, CauseOf, HasCause}
+use Rattle.kat_io.specs.Counts.{Rose}
 use Rattle.kat_top.specs.Runner.{text_owed, text_for_end}
 
 with_both : (held : Option (List ℕ)) (front back : List ℕ) → with_bytes (with_bytes held front) back ≡ with_bytes held (front ++ back)
@@ -65,3 +66,25 @@ pub reads_more : (old mid new : List (Name × ℕ)) (name : Name) (more : List N
 reads_more old mid new name more read (n, e) =
     let reads : List (Name × ℕ) = take n (map (λ (m : Name). (m, 4194304)) more) in
     (suc n, e ∙ ap (λ l. l ++ reads) read ∙ append_snoc old (name, 4194304) reads)
+
+-- a refusal has the cause that the read had
+pub cause_of : (refusal : Refusal) (failed overlong : Type 0) → IfReadFailed refusal failed → IfLong refusal overlong → CauseOf refusal failed overlong
+cause_of Failed failed overlong f o = f
+cause_of Long failed overlong f o = o
+cause_of Unbuilt failed overlong f o = tt
+cause_of Memory failed overlong f o = tt
+
+-- a count that rose behind another read rose in both
+pub rose_before : (first mid last : ℕ) → first ≤ mid → Rose mid last → Rose first last
+rose_before first mid last le rose = omega arith
+
+pub rose_behind : (first mid last : ℕ) → Rose first mid → mid ≤ last → Rose first last
+rose_behind first mid last rose le = omega arith
+
+pub cause_before : {A : Type 0} (found : Result A Refusal) (failed overlong failed' overlong' : Type 0) → (failed → failed') → (overlong → overlong') →
+  HasCause found failed overlong → HasCause found failed' overlong'
+cause_before (Ok a) failed overlong failed' overlong' f o cause = tt
+cause_before (Err Failed) failed overlong failed' overlong' f o cause = f cause
+cause_before (Err Long) failed overlong failed' overlong' f o cause = o cause
+cause_before (Err Unbuilt) failed overlong failed' overlong' f o cause = tt
+cause_before (Err Memory) failed overlong failed' overlong' f o cause = tt

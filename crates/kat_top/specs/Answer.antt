@@ -11,7 +11,7 @@ use Rattle.kat_top.specs.declared.status.Status.{Status}
 use Rattle.kat_top.specs.declared.status.Status.TheVariants as status
 use Rattle.kat_top.specs.declared.files.Refusal.{Refusal}
 use Rattle.kat_top.specs.declared.files.Refusal.TheVariants.{Failed, Long, Unbuilt, Memory}
-use Rattle.kat_top.specs.Files.{AgreesWith}
+use Rattle.kat_top.specs.Files.{AgreesWith, HasCause}
 use Rattle.kat_top.specs.Words.{RunJob}
 
 -- what a call owes
@@ -67,15 +67,18 @@ abbrev pub IsAsTold : Option RunJob → (Name → Option (List ℕ)) → Result 
 IsAsTold None told spec start = Unit {0}
 IsAsTold (Some job) told spec start = AgreesWith (told job.spec) spec × AgreesWith (told job.image) start
 
--- the answer to a job behind its specification, for what came of the image
-abbrev pub AnsweredFrom : RunJob → Spec → (Name → Option (List ℕ)) → Status → Option (List ℕ) → Option (List ℕ) → Type 0
-AnsweredFrom job spec told given old new =
-    (start : Result MachineState Refusal) × AgreesWith (told job.image) start × Gave given old new (job_answer job (Ok spec) start)
+-- the answer to a job behind its specification, for what came of the image. A read failed, or found too much, only
+-- where the facts that are given for this hold
+abbrev pub AnsweredFrom : RunJob → Spec → (Name → Option (List ℕ)) → (failed overlong : Type 0) → Status → Option (List ℕ) → Option (List ℕ) → Type 0
+AnsweredFrom job spec told failed overlong given old new =
+    (start : Result MachineState Refusal) × AgreesWith (told job.image) start × HasCause start failed overlong
+    × Gave given old new (job_answer job (Ok spec) start)
 
 -- the answer to the words, for what came of the two files
-abbrev pub Answered : Option RunJob → (Name → Option (List ℕ)) → Status → Option (List ℕ) → Option (List ℕ) → Type 0
-Answered job told given old new =
-    (spec : Result Spec Refusal) × (start : Result MachineState Refusal) × IsAsTold job told spec start × Gave given old new (answer_of job spec start)
+abbrev pub Answered : Option RunJob → (Name → Option (List ℕ)) → (failed overlong : Type 0) → Status → Option (List ℕ) → Option (List ℕ) → Type 0
+Answered job told failed overlong given old new =
+    (spec : Result Spec Refusal) × (start : Result MachineState Refusal) × IsAsTold job told spec start
+    × HasCause spec failed overlong × HasCause start failed overlong × Gave given old new (answer_of job spec start)
 
 -- a status other than that of a failed write and of want of memory
 abbrev pub IsPlain : Status → Type 0

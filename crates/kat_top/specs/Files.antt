@@ -21,6 +21,16 @@ abbrev pub IfLong : Refusal → Type 0 → Type 0
 IfLong Long P = P
 IfLong _ P = Unit {0}
 
+-- why a file was not taken has its cause: a read failed, or found too much
+abbrev pub CauseOf : Refusal → Type 0 → Type 0 → Type 0
+CauseOf Failed failed overlong = failed
+CauseOf Long failed overlong = overlong
+CauseOf _ failed overlong = Unit {0}
+
+abbrev pub HasCause : {A : Type 0} → Result A Refusal → Type 0 → Type 0 → Type 0
+HasCause (Ok a) failed overlong = Unit {0}
+HasCause (Err refusal) failed overlong = CauseOf refusal failed overlong
+
 -- the read of a name that was not taken was noted; where memory ran out it may not have been
 abbrev pub NotedRefusal : Refusal → List (Name × ℕ) → List (Name × ℕ) → Name → Type 0
 NotedRefusal Memory old new name = (new ≡ old) ⊎ (new ≡ old ++ (name, 4194304) ∷ [])

@@ -5,33 +5,33 @@ use kat_value::Ty;
 
 /// What is known of the type of a form. A `fail` has any type, and so has a name that is bound to one.
 #[derive(Clone, Copy, Debug, PartialEq, Eq)]
-pub enum Kind {
+pub enum KnownType {
     Open,
-    Known(Ty),
+    Is(Ty),
 }
 
-impl Kind {
+impl KnownType {
     /// Whether a form of this kind may stand where the type is wanted.
     pub fn fits(self, wanted: Ty) -> bool {
         match self {
-            Kind::Open => true,
-            Kind::Known(ty) => ty == wanted,
+            KnownType::Open => true,
+            KnownType::Is(ty) => ty == wanted,
         }
     }
 
     /// Whether a form of this kind may stand where bits of some width are wanted.
     pub fn fits_bits(self) -> bool {
         match self {
-            Kind::Open | Kind::Known(Ty::Bits(_)) => true,
-            Kind::Known(_) => false,
+            KnownType::Open | KnownType::Is(Ty::Bits(_)) => true,
+            KnownType::Is(_) => false,
         }
     }
 
     /// The kind of two forms whose types have to be equal.
-    pub fn joined(self, other: Kind) -> Option<Kind> {
+    pub fn joined(self, other: KnownType) -> Option<KnownType> {
         match (self, other) {
-            (Kind::Open, kind) | (kind, Kind::Open) => Some(kind),
-            (Kind::Known(ty), Kind::Known(other)) if ty == other => Some(self),
+            (KnownType::Open, kind) | (kind, KnownType::Open) => Some(kind),
+            (KnownType::Is(ty), KnownType::Is(other)) if ty == other => Some(self),
             _ => None,
         }
     }
@@ -43,13 +43,13 @@ pub enum Scope<'a> {
     Empty,
     More {
         name: &'a Text,
-        kind: Kind,
+        kind: KnownType,
         rest: &'a Scope<'a>,
     },
 }
 
 /// The kind of a name, if it is in scope.
-pub fn kind_of_name(scope: &Scope<'_>, name: &Text) -> Option<Kind> {
+pub fn kind_of_name(scope: &Scope<'_>, name: &Text) -> Option<KnownType> {
     match scope {
         Scope::Empty => None,
         Scope::More {

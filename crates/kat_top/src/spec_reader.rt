@@ -22,7 +22,7 @@ fn form(tree: &Tree) -> Option<(&str, &[Tree])> {
 // A name, which is no word of the language's values.
 fn name(alloc: Global, tree: &Tree) -> Result<Text, TextError> {
     match tree {
-        Tree::Name(name) if !is_value_word(name.as_str()) => Ok(name.copy(alloc)?),
+        Tree::Name(name) if !is_value_word(name.as_str()) => Ok(name.copy()?),
         _ => Err(TextError::Unbuilt),
     }
 }

@@ -31,7 +31,7 @@ impl Model for State {
 }
 
 impl State {
-    /// The state in which every register has its first value: the number 0.
+    /// The state in which every register has the first value of its type: the number 0, or false.
     pub fn start(alloc: Global, machine: &Checked) -> Result<State, AllocError>
         ensures { IfOk result (λ s. s ≡ start_of machine.now) }
     {
@@ -77,6 +77,7 @@ fn first_value(ty: &TypeName) -> Value
             width: *width as u32,
             number: 0,
         },
+        TypeName::Bool => Value::Bool(false),
         _ => Value::Unit,
     }
 }

@@ -36,7 +36,7 @@ pub fn register_list(alloc: Global, decls: &[Decl]) -> Result<Items<Text>, Alloc
     let mut names = Items::new(alloc);
     for decl in decls {
         if let Decl::Register { name, .. } = decl {
-            names.push(name.copy(alloc)?)?;
+            names.push(name.copy()?)?;
         }
     }
     Ok(names)

@@ -9,6 +9,9 @@ use std::test::Fail;
 
 const COUNTER: &str = "(spec 1 (register n (bits 8) plain) (fun f () unit (let a (read n) (if (ult a (bits 8 3)) (write n (add a (bits 8 1))) (fail)))) (step f))";
 
+// The same with a call in place of its `fail`.
+const WITH_CALL: &str = "(spec 1 (register n (bits 8) plain) (fun f () unit (let a (read n) (if (ult a (bits 8 3)) (write n (add a (bits 8 1))) (call f)))) (step f))";
+
 // What a call gives: its status, and what it wrote.
 fn run_words(
     alloc: Global,
@@ -75,7 +78,7 @@ fn runs_write_their_states(rt: HostRuntime) -> Result<(), Fail> {
 fn texts_and_images_that_are_not_built(rt: HostRuntime) -> Result<(), Fail> {
     let alloc = rt.alloc();
     let rows = [
-        ("(spec 1 (fun f () unit (call f)) (step f))", ""),
+        (WITH_CALL, "reg n 0x01"),
         ("(spec 1 (fun f () unit (fail)))", ""),
         ("(spec 1 (register n (bits 65) plain) (fun f () unit (fail)) (step f))", ""),
         ("(spec 1 (fun f () unit (fail)) (step f)) ; no comment", ""),
@@ -109,5 +112,22 @@ fn faults_outside_end_a_run(rt: HostRuntime) -> Result<(), Fail> {
     let (status, written) = run_words(alloc, words, files, second, Vec::new(alloc))?;
     assert_eq!(rt; status, Status::ReadFault);
     assert_eq!(rt; written.as_slice(), b"read i\n".as_slice());
+    Ok(())
+}
+
+#[test]
+fn a_long_specification_is_refused_before_a_bad_image(rt: HostRuntime) -> Result<(), Fail> {
+    let alloc = rt.alloc();
+    let mut files = two_files(alloc, "", "no image")?;
+    let long = vec![in alloc; b' '; 4_194_305]?;
+    files.remove(0);
+    files.push(Named {
+        name: Text::new(alloc, "s")?,
+        bytes: Items::from_vec(long),
+    })?;
+    let words = "run s i --cycles 3 --calls 1";
+    let (status, written) = run_words(alloc, words, files, Vec::new(alloc), Vec::new(alloc))?;
+    assert_eq!(rt; status, Status::TooLong);
+    assert_eq!(rt; written.as_slice(), b"long s 4194305\n".as_slice());
     Ok(())
 }

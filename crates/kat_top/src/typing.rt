@@ -1,7 +1,7 @@
 // Whether a specification of the forms that are built is typed. A fault of any kind is answered alike.
 
 use crate::fault::TextError;
-use crate::scope::{Kind, Scope, kind_of_name};
+use crate::scope::{KnownType, Scope, kind_of_name};
 use kat_names::Table;
 use kat_syntax::{Decl, Expr, Op, Spec, Stm, TypeName};
 use kat_text::Text;
@@ -114,7 +114,7 @@ fn check_decl(declared: &Declared, decl: &Decl) -> Result<(), TextError> {
     }
 }
 
-fn kind_of_stm(stm: &Stm, declared: &Declared, scope: &Scope<'_>) -> Result<Kind, TextError> {
+fn kind_of_stm(stm: &Stm, declared: &Declared, scope: &Scope<'_>) -> Result<KnownType, TextError> {
     match stm {
         Stm::Ret(value) => kind_of_expr(value, scope),
         Stm::Let { name, first, then } => {
@@ -139,21 +139,21 @@ fn kind_of_stm(stm: &Stm, declared: &Declared, scope: &Scope<'_>) -> Result<Kind
         }
         Stm::Read(register) => {
             let ty = declared.register_type(register).ok_or(TextError::Unbuilt)?;
-            Ok(Kind::Known(ty))
+            Ok(KnownType::Is(ty))
         }
         Stm::Write { register, value } => {
             let ty = declared.register_type(register).ok_or(TextError::Unbuilt)?;
             ensure(kind_of_expr(value, scope)?.fits(ty))?;
-            Ok(Kind::Known(Ty::Unit))
+            Ok(KnownType::Is(Ty::Unit))
         }
-        Stm::Fail => Ok(Kind::Open),
+        Stm::Fail => Ok(KnownType::Open),
     }
 }
 
-fn kind_of_expr(expr: &Expr, scope: &Scope<'_>) -> Result<Kind, TextError> {
+fn kind_of_expr(expr: &Expr, scope: &Scope<'_>) -> Result<KnownType, TextError> {
     match expr {
         Expr::Name(name) => kind_of_name(scope, name).ok_or(TextError::Unbuilt),
-        Expr::Unit => Ok(Kind::Known(Ty::Unit)),
+        Expr::Unit => Ok(KnownType::Is(Ty::Unit)),
         Expr::Bits { width, number } => kind_of_literal(*width, *number),
         Expr::Apply { op, args } => match args.as_slice() {
             [first, second] => {
@@ -166,21 +166,21 @@ fn kind_of_expr(expr: &Expr, scope: &Scope<'_>) -> Result<Kind, TextError> {
     }
 }
 
-fn kind_of_literal(width: u64, number: u64) -> Result<Kind, TextError> {
+fn kind_of_literal(width: u64, number: u64) -> Result<KnownType, TextError> {
     if width <= 64 && is_number(width as u32, number) {
-        Ok(Kind::Known(Ty::Bits(width as u32)))
+        Ok(KnownType::Is(Ty::Bits(width as u32)))
     } else {
         Err(TextError::Unbuilt)
     }
 }
 
-fn kind_of_two(op: Op, first: Kind, second: Kind) -> Result<Kind, TextError> {
+fn kind_of_two(op: Op, first: KnownType, second: KnownType) -> Result<KnownType, TextError> {
     let joined = first.joined(second).ok_or(TextError::Unbuilt)?;
     match op {
-        Op::Eq => Ok(Kind::Known(Ty::Bool)),
+        Op::Eq => Ok(KnownType::Is(Ty::Bool)),
         Op::Ult => {
             ensure(joined.fits_bits())?;
-            Ok(Kind::Known(Ty::Bool))
+            Ok(KnownType::Is(Ty::Bool))
         }
         Op::Add => {
             ensure(joined.fits_bits())?;

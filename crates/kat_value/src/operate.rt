@@ -12,7 +12,8 @@ use crate::op::Op;
 use crate::typing::is_number;
 use crate::value::Value;
 
-/// What an operation gives on two values; none where they are not of types that it takes. It takes no memory.
+/// What `Eq`, `Ult` or `Add` gives on two values; none where they are not of types that it takes, and of every other
+/// operation, which has no meaning on values yet. It takes no memory.
 pub fn operate_on_two(op: Op, a: &Value, b: &Value) -> Option<Value>
     ensures { result ≡ value_of_op op (a.now ∷ b.now ∷ []) }
 {
