@@ -82,7 +82,7 @@ pub rose_behind : (first mid last : ℕ) → Rose first mid → mid ≤ last →
 rose_behind first mid last rose le = omega arith
 
 pub cause_before : {A : Type 0} (found : Result A Refusal) (failed overlong failed' overlong' : Type 0) → (failed → failed') → (overlong → overlong') →
-  HasCause found failed overlong → HasCause found failed' overlong'
+    HasCause found failed overlong → HasCause found failed' overlong'
 cause_before (Ok a) failed overlong failed' overlong' f o cause = tt
 cause_before (Err Failed) failed overlong failed' overlong' f o cause = f cause
 cause_before (Err Long) failed overlong failed' overlong' f o cause = o cause

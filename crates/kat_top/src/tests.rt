@@ -7,10 +7,12 @@ use sqlite_items::Items;
 use std::alloc::{AllocError, Global};
 use std::test::Fail;
 
-const COUNTER: &str = "(spec 1 (register n (bits 8) plain) (fun f () unit (let a (read n) (if (ult a (bits 8 3)) (write n (add a (bits 8 1))) (fail)))) (step f))";
+const COUNTER: &str =
+    "(spec 1 (register n (bits 8) plain) (fun f () unit (let a (read n) (if (ult a (bits 8 3)) (write n (add a (bits 8 1))) (fail)))) (step f))";
 
 // The same with a call in place of its `fail`.
-const WITH_CALL: &str = "(spec 1 (register n (bits 8) plain) (fun f () unit (let a (read n) (if (ult a (bits 8 3)) (write n (add a (bits 8 1))) (call f)))) (step f))";
+const WITH_CALL: &str =
+    "(spec 1 (register n (bits 8) plain) (fun f () unit (let a (read n) (if (ult a (bits 8 3)) (write n (add a (bits 8 1))) (call f)))) (step f))";
 
 // What a call gives: its status, and what it wrote.
 fn run_words(
@@ -57,13 +59,25 @@ fn runs_write_their_states(rt: HostRuntime) -> Result<(), Fail> {
             Status::Ok,
             "at 0\nreg n 0x01\nat 1\nreg n 0x02\nat 2\nreg n 0x03\nended 2\n",
         ),
-        ("run s i --cycles 0 --calls 1", Status::Ok, "at 0\nreg n 0x01\nended 0\n"),
-        ("run s i --cycles 1000001 --calls 1", Status::Usage, "usage\n"),
+        (
+            "run s i --cycles 0 --calls 1",
+            Status::Ok,
+            "at 0\nreg n 0x01\nended 0\n",
+        ),
+        (
+            "run s i --cycles 1000001 --calls 1",
+            Status::Usage,
+            "usage\n",
+        ),
         ("run s i --cycles 3 --calls 2", Status::Usage, "usage\n"),
         ("run @s i --cycles 3 --calls 1", Status::Usage, "usage\n"),
         ("run s i --calls 1 --cycles 3", Status::Usage, "usage\n"),
         ("", Status::Usage, "usage\n"),
-        ("run s none --cycles 3 --calls 1", Status::ReadFault, "read none\n"),
+        (
+            "run s none --cycles 3 --calls 1",
+            Status::ReadFault,
+            "read none\n",
+        ),
     ];
     for (words, status, text) in rows {
         let files = two_files(alloc, COUNTER, "reg n 0x01\n")?;
@@ -80,7 +94,10 @@ fn texts_and_images_that_are_not_built(rt: HostRuntime) -> Result<(), Fail> {
     let rows = [
         (WITH_CALL, "reg n 0x01"),
         ("(spec 1 (fun f () unit (fail)))", ""),
-        ("(spec 1 (register n (bits 65) plain) (fun f () unit (fail)) (step f))", ""),
+        (
+            "(spec 1 (register n (bits 65) plain) (fun f () unit (fail)) (step f))",
+            "",
+        ),
         ("(spec 1 (fun f () unit (fail)) (step f)) ; no comment", ""),
         (COUNTER, "reg  n 0x01"),
         (COUNTER, "reg n 256"),

@@ -11,9 +11,14 @@ returns-in-Ok-clause-reads g c =
 
 pub returns-in-Ok-clause-answer : goal.returns-in-Ok-clause-answer
 returns-in-Ok-clause-answer g c =
-    let from = c.run_machine.ensures.answer in
-    (Ok c.in-Ok.machine, from.0, (c.in-Ok.ensures.agrees, subst (λ (told : Name → Option (List ℕ)). AgreesWith (told c.args.job.now.image.now) from.0) c.in-Ok.ensures.told from.1), tt,
-      cause_before from.0 _ _ _ _ (rose_before _ _ _ c.in-Ok.ensures.faults) (rose_before _ _ _ c.in-Ok.ensures.overlong) from.2, from.3)
+    let from = c.run_machine.ensures.answer in (
+      Ok c.in-Ok.machine,
+      from.0,
+      (c.in-Ok.ensures.agrees, subst (λ (told : Name → Option (List ℕ)). AgreesWith (told c.args.job.now.image.now) from.0) c.in-Ok.ensures.told from.1),
+      tt,
+      cause_before from.0 _ _ _ _ (rose_before _ _ _ c.in-Ok.ensures.faults) (rose_before _ _ _ c.in-Ok.ensures.overlong) from.2,
+      from.3,
+    )
 
 pub returns-in-Err-clause-answer : goal.returns-in-Err-clause-answer
 returns-in-Err-clause-answer g c =
