@@ -20,8 +20,6 @@ mod spec_reader;
 mod state;
 mod status;
 mod tables;
-#[cfg(test)]
-mod tests;
 mod text;
 mod tree;
 mod typing;

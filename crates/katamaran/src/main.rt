@@ -1,6 +1,9 @@
 //! The program: the words after its name, the system's files and standard output, and one call.
 #![tactic(auto)]
 
+#[cfg(test)]
+mod tests;
+
 use kat_io::{HostFiles, HostSink};
 use kat_top::{Status, top};
 use std::alloc::{AllocError, Global};

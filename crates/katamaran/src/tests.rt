@@ -1,0 +1,222 @@
+//! The worked runs, over files and sinks in memory.
+
+use kat_io::{MemoryFiles, MemorySink, Named};
+use kat_text::Text;
+use kat_top::{Status, top};
+use sqlite_items::Items;
+use std::alloc::{AllocError, Global};
+use std::test::Fail;
+
+const COUNTER: &str =
+    "(spec 1 (register n (bits 8) plain) (fun f () unit (let a (read n) (if (ult a (bits 8 3)) (write n (add a (bits 8 1))) (fail)))) (step f))";
+
+// The same with a call in place of its `fail`.
+const WITH_CALL: &str =
+    "(spec 1 (register n (bits 8) plain) (fun f () unit (let a (read n) (if (ult a (bits 8 3)) (write n (add a (bits 8 1))) (call f)))) (step f))";
+
+// The two files of a run.
+fn two_files(alloc: Global, spec: &[u8], image: &str) -> Result<Vec<Named>, AllocError> {
+    let mut files = Vec::new(alloc);
+    files.push(Named {
+        name: Text::new(alloc, "s")?,
+        bytes: Items::from_slice(alloc, spec)?,
+    })?;
+    files.push(Named {
+        name: Text::new(alloc, "i")?,
+        bytes: Items::from_slice(alloc, image.as_bytes())?,
+    })?;
+    Ok(files)
+}
+
+// The words of a line.
+fn words_of(alloc: Global, line: &str) -> Result<Vec<String>, AllocError> {
+    let mut words = Vec::new(alloc);
+    for word in line.split_whitespace() {
+        words.push(String::from_str(alloc, word)?)?;
+    }
+    Ok(words)
+}
+
+// The numbers of the reads, or writes, that fail: one, or none where it is 0.
+fn failing(alloc: Global, number: u64) -> Result<Vec<u64>, AllocError> {
+    let mut numbers = Vec::new(alloc);
+    if number > 0 {
+        numbers.push(number)?;
+    }
+    Ok(numbers)
+}
+
+// One call of the program: what it is given, and what it has to answer.
+#[derive(Clone, Copy, Drop)]
+struct Row<'a> {
+    words: &'a str,
+    spec: &'a [u8],
+    image: &'a str,
+    failing_read: u64,
+    failing_write: u64,
+    status: Status,
+    text: &'a str,
+}
+
+// So many blanks.
+fn blanks(alloc: Global, count: usize) -> Result<Vec<u8>, AllocError> {
+    let mut bytes = Vec::new(alloc);
+    for _ in 0..count {
+        bytes.push(b' ')?;
+    }
+    Ok(bytes)
+}
+
+// Whether a call answers as its row says, by its status and every byte.
+fn agrees(alloc: Global, row: &Row<'_>) -> Result<bool, AllocError> {
+    let words = words_of(alloc, row.words)?;
+    let files = two_files(alloc, row.spec, row.image)?;
+    let mut files = MemoryFiles::new(alloc, files, failing(alloc, row.failing_read)?);
+    let mut out = MemorySink::new(alloc, failing(alloc, row.failing_write)?);
+    let status = top(alloc, words.as_slice(), &mut files, &mut out);
+    Ok(status == row.status && out.contents() == row.text.as_bytes())
+}
+
+// Whether a run of the counter from 1 answers so.
+fn counter_agrees(
+    alloc: Global,
+    words: &str,
+    status: Status,
+    text: &str,
+) -> Result<bool, AllocError> {
+    let row = Row {
+        words,
+        spec: COUNTER.as_bytes(),
+        image: "reg n 0x01\n",
+        failing_read: 0,
+        failing_write: 0,
+        status,
+        text,
+    };
+    agrees(alloc, &row)
+}
+
+// Whether a text and an image are not built.
+fn is_unbuilt(alloc: Global, spec: &str, image: &str) -> Result<bool, AllocError> {
+    let row = Row {
+        words: "run s i --cycles 1 --calls 1",
+        spec: spec.as_bytes(),
+        image,
+        failing_read: 0,
+        failing_write: 0,
+        status: Status::Form,
+        text: "unbuilt\n",
+    };
+    agrees(alloc, &row)
+}
+
+#[test]
+fn runs_write_their_states(rt: HostRuntime) -> Result<(), Fail> {
+    let rows = [
+        (
+            "run s i --cycles 3 --calls 1",
+            Status::Failed,
+            "at 0\nreg n 0x01\nat 1\nreg n 0x02\nat 2\nreg n 0x03\nfailed 3 1 30\n",
+        ),
+        (
+            "run s i --cycles 02 --calls 1",
+            Status::Ok,
+            "at 0\nreg n 0x01\nat 1\nreg n 0x02\nat 2\nreg n 0x03\nended 2\n",
+        ),
+        (
+            "run s i --cycles 0 --calls 1",
+            Status::Ok,
+            "at 0\nreg n 0x01\nended 0\n",
+        ),
+        (
+            "run s i --cycles 1000001 --calls 1",
+            Status::Usage,
+            "usage\n",
+        ),
+        ("run s i --cycles 3 --calls 2", Status::Usage, "usage\n"),
+        ("run @s i --cycles 3 --calls 1", Status::Usage, "usage\n"),
+        ("run s i --calls 1 --cycles 3", Status::Usage, "usage\n"),
+        ("", Status::Usage, "usage\n"),
+        (
+            "run s none --cycles 3 --calls 1",
+            Status::ReadFault,
+            "read none\n",
+        ),
+    ];
+    for (words, status, text) in rows {
+        let agrees = counter_agrees(rt.alloc(), words, status, text)?;
+        assert!(rt; agrees, "at {words}");
+    }
+    Ok(())
+}
+
+#[test]
+fn texts_and_images_that_are_not_built(rt: HostRuntime) -> Result<(), Fail> {
+    let rows = [
+        (WITH_CALL, "reg n 0x01"),
+        ("(spec 1 (fun f () unit (fail)))", ""),
+        (
+            "(spec 1 (register n (bits 65) plain) (fun f () unit (fail)) (step f))",
+            "",
+        ),
+        ("(spec 1 (fun f () unit (fail)) (step f)) ; no comment", ""),
+        (COUNTER, "reg  n 0x01"),
+        (COUNTER, "reg n 256"),
+        (COUNTER, "reg n 1\nreg n 1"),
+        (COUNTER, "reg n 1\r\n"),
+    ];
+    for (spec, image) in rows {
+        let unbuilt = is_unbuilt(rt.alloc(), spec, image)?;
+        assert!(rt; unbuilt, "at {spec} with {image}");
+    }
+    Ok(())
+}
+
+#[test]
+fn a_failing_write_leaves_what_was_written(rt: HostRuntime) -> Result<(), Fail> {
+    let row = Row {
+        words: "run s i --cycles 3 --calls 1",
+        spec: COUNTER.as_bytes(),
+        image: "reg n 1",
+        failing_read: 0,
+        failing_write: 2,
+        status: Status::WriteFault,
+        text: "at 0\nreg n 0x01\n",
+    };
+    let agrees = agrees(rt.alloc(), &row)?;
+    assert!(rt; agrees);
+    Ok(())
+}
+
+#[test]
+fn a_failing_read_names_its_file(rt: HostRuntime) -> Result<(), Fail> {
+    let row = Row {
+        words: "run s i --cycles 3 --calls 1",
+        spec: COUNTER.as_bytes(),
+        image: "reg n 1",
+        failing_read: 2,
+        failing_write: 0,
+        status: Status::ReadFault,
+        text: "read i\n",
+    };
+    let agrees = agrees(rt.alloc(), &row)?;
+    assert!(rt; agrees);
+    Ok(())
+}
+
+#[test]
+fn a_long_specification_is_refused_before_a_bad_image(rt: HostRuntime) -> Result<(), Fail> {
+    let long = blanks(rt.alloc(), 4_194_305)?;
+    let row = Row {
+        words: "run s i --cycles 3 --calls 1",
+        spec: long.as_slice(),
+        image: "no image",
+        failing_read: 0,
+        failing_write: 0,
+        status: Status::TooLong,
+        text: "long s 4194305\n",
+    };
+    let agrees = agrees(rt.alloc(), &row)?;
+    assert!(rt; agrees);
+    Ok(())
+}
