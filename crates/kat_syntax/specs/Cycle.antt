@@ -4,14 +4,14 @@ use Rattle.kat_value.specs.declared.value.Value.{Value}
 use Rattle.kat_value.specs.declared.value.Value.TheVariants.{Unit as UnitValue}
 use Rattle.kat_syntax.specs.declared.place.Place.{Place}
 use Rattle.kat_syntax.specs.declared.decl.Param.{Param}
-use Rattle.kat_syntax.specs.declared.decl.Decl.{Decl}
+use Rattle.kat_syntax.specs.declared.decl.DeclForm.{DeclForm}
 use Rattle.kat_syntax.specs.declared.decl.Spec.{Spec}
 use Rattle.kat_syntax.specs.Tables.{Name, RegisterDecl, registers_of, Function, function_from, step_of}
 use Rattle.kat_syntax.specs.Machine.{MachineState, Progress}
 use Rattle.kat_syntax.specs.Meaning.{Locals, Site, Here, There, Outcome, Done, Out, Fail, inside, Calls, meaning}
 
 -- the names of the registers
-abbrev pub register_names : List Decl → List Name
+abbrev pub register_names : List DeclForm → List Name
 register_names decls = map (λ (register : RegisterDecl). register.name) (registers_of decls)
 
 -- each parameter with its argument
@@ -42,7 +42,7 @@ spend_one zero progress go = Out
 spend_one (suc left) progress go = go (record progress { left = left })
 
 -- what a call does, where calls may stand this deep in one another. As deep as calls are left is deep enough
-abbrev pub call_of : List Decl → ℕ → Calls
+abbrev pub call_of : List DeclForm → ℕ → Calls
 call_of decls zero f args progress = Out
 call_of decls (suc depth) f args progress =
     spend_one progress.left progress (body_of (register_names decls) (call_of decls depth) (function_from 0 decls f) args)

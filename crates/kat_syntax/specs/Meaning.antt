@@ -8,12 +8,12 @@ use Rattle.kat_value.specs.declared.value.Value.TheVariants.{Unit as UnitValue, 
 use Rattle.kat_value.specs.Operations.{is_number, value_of_op}
 use Rattle.kat_syntax.specs.declared.place.Place.{Place}
 use Rattle.kat_syntax.specs.declared.expr.Expr.{Expr}
-use Rattle.kat_syntax.specs.declared.expr.Expr.TheOpen.{Expr-F, Name as Named, Unit, Bits, Apply}
+use Rattle.kat_syntax.specs.declared.expr.Expr.TheOpen.{Expr-F, Name as Named, Bits, Apply}
 use Rattle.kat_syntax.specs.declared.expr.Expr.TheFolds.{fold-Expr}
 use Rattle.kat_syntax.specs.declared.stm.Stm.{Stm}
 use Rattle.kat_syntax.specs.declared.stm.Stm.TheOpen.{Stm-F, Ret, Let, If, Read, Write, Fail as FailStm}
-use Rattle.kat_syntax.specs.declared.stm.Stm.TheFolds.{fold-Stm}
-use Rattle.kat_syntax.specs.Trees.{trees_of_expr}
+use Rattle.kat_syntax.specs.declared.stm.Stm.TheFolds.{map-Stm, fold-Stm}
+use Rattle.kat_syntax.specs.Trees.{trees_of_expr, stm_trees}
 use Rattle.kat_syntax.specs.Tables.{Name}
 use Rattle.kat_syntax.specs.Machine.{MachineState, Progress}
 
@@ -26,12 +26,12 @@ abbrev pub value_of_name : Locals → Name → Value
 value_of_name [] x = UnitValue
 value_of_name (local ∷ locals) x = if bytes_eq local.0 x then local.1 else value_of_name locals x
 
--- one layer of an expression, with the value of each part in its place
+-- one layer of an expression, with the value of each part in its place. The forms that no machine runs yet give unit
 abbrev pub expr_value : Expr-F (Locals → Value) → Locals → Value
 expr_value (Named x) locals = value_of_name locals x
-expr_value Unit locals = UnitValue
 expr_value (Bits width number) locals = if is_number width number then Number width number else UnitValue
 expr_value (Apply op args) locals = unwrap_or (value_of_op op (map (λ arg. arg locals) args)) UnitValue
+expr_value _ locals = UnitValue
 
 abbrev pub value_of_expr : Expr → Locals → Value
 value_of_expr = fold-Expr (Locals → Value) expr_value
@@ -86,34 +86,28 @@ pub record Part : Type 0 where
   pub trees : ℕ
   pub does : Locals → Progress → Outcome
 
--- one layer of a statement, in a machine whose registers have these names
+-- what one layer of a statement does, in a machine whose registers have these names. The forms that no machine runs yet
+-- do nothing and give unit
+abbrev pub does_of : List Name → Calls → Stm-F Part → Locals → Progress → Outcome
+does_of names calls (Ret e) locals progress = Done (value_of_expr e locals) progress
+does_of names calls (Let x first second) locals progress =
+    then_do (inside 3 (first.does locals progress))
+    (λ value next. inside (3 + first.trees) (second.does ((x, value) ∷ locals) next))
+does_of names calls (If test first second) locals progress =
+    if is_true (value_of_expr test locals)
+    then inside (2 + trees_of_expr test) (first.does locals progress)
+    else inside (2 + trees_of_expr test + first.trees) (second.does locals progress)
+does_of names calls (Read r) locals progress = Done (read_of names r progress.state) progress
+does_of names calls (Write r e) locals progress = Done UnitValue (write_to names r (value_of_expr e locals) progress)
+does_of names calls FailStm locals progress = Fail (Here 0)
+does_of names calls _ locals progress = Done UnitValue progress
+
+-- one layer of a statement
 abbrev pub part_of : List Name → Calls → Stm-F Part → Part
-part_of names calls (Ret e) = record {
-  trees = 2 + trees_of_expr e;
-  does = λ locals progress. Done (value_of_expr e locals) progress;
+part_of names calls layer = record {
+  trees = stm_trees (map-Stm Part ℕ (λ part. part.trees) layer);
+  does = does_of names calls layer;
 }
-part_of names calls (Let x first second) = record {
-  trees = 3 + first.trees + second.trees;
-  does = λ locals progress.
-      then_do (inside 3 (first.does locals progress))
-      (λ value next. inside (3 + first.trees) (second.does ((x, value) ∷ locals) next));
-}
-part_of names calls (If test first second) = record {
-  trees = 2 + trees_of_expr test + first.trees + second.trees;
-  does = λ locals progress.
-      if is_true (value_of_expr test locals)
-      then inside (2 + trees_of_expr test) (first.does locals progress)
-      else inside (2 + trees_of_expr test + first.trees) (second.does locals progress);
-}
-part_of names calls (Read r) = record {
-  trees = 3;
-  does = λ locals progress. Done (read_of names r progress.state) progress;
-}
-part_of names calls (Write r e) = record {
-  trees = 3 + trees_of_expr e;
-  does = λ locals progress. Done UnitValue (write_to names r (value_of_expr e locals) progress);
-}
-part_of names calls FailStm = record { trees = 2; does = λ locals progress. Fail (Here 0) }
 
 -- what a statement does
 abbrev pub meaning : List Name → Calls → Stm → Locals → Progress → Outcome

@@ -1,13 +1,16 @@
 -- The equations of the meaning, form by form.
-use Rattle.std.specs.Prelude.{◌≡◌, ℕ, ◌+◌, if◌then◌else◌, ◌∷◌, List, refl}
+use Rattle.std.specs.Prelude.{◌≡◌, ℕ, ◌+◌, if◌then◌else◌, [], ◌∷◌, List, map, sum, sum_by, refl}
 use Rattle.std.proofs.Common.{ap, ◌∙◌, sym, subst, arith}
 use Rattle.kat_syntax.specs.declared.expr.Expr.{Expr}
 use Rattle.kat_syntax.specs.declared.stm.Stm.{Stm}
-use Rattle.kat_syntax.specs.declared.stm.Stm.TheOpen.{Stm-F, Ret, Let, If, Read, Write, Fail}
+use Rattle.kat_syntax.specs.declared.stm.CaseArm.{CaseArm}
+use Rattle.kat_syntax.specs.declared.stm.MatchArm.{MatchArm}
+use Rattle.kat_syntax.specs.declared.stm.Stm.TheShapes.{former-Stm-Case-1-at-2 as case_arm, former-Stm-Match-1-at-3 as match_arm}
+use Rattle.kat_syntax.specs.declared.stm.Stm.TheOpen.{Stm-F, Ret, Let, Seq, If, Case, Match}
 use Rattle.kat_syntax.specs.declared.stm.Stm.TheViews.{out-Stm}
 use Rattle.kat_syntax.specs.declared.stm.Stm.TheFolds.{map-Stm, fold-Stm, fold-roll-Stm, fold_out-Stm, ind-Stm}
 use Rattle.kat_syntax.specs.Tables.{Name}
-use Rattle.kat_syntax.specs.Trees.{trees_of_expr, stm_trees, trees_of_stm}
+use Rattle.kat_syntax.specs.Trees.{trees_of_expr, trees_of_case_arm, trees_of_match_arm, stm_trees, trees_of_stm}
 use Rattle.kat_syntax.specs.Machine.{Progress}
 use Rattle.kat_syntax.specs.Meaning.{Locals, Outcome, then_do, inside, is_true, value_of_expr, Calls, Part, part_of, meaning}
 
@@ -19,15 +22,41 @@ module _ (names : List Name) (calls : Calls) where
   abbrev HasCount : Stm → Type 0
   HasCount s = (whole names calls s).trees ≡ trees_of_stm s
 
+  parts_have_counts : (parts : List ((s : Stm) × HasCount s)) →
+      map (λ (p : Part). p.trees) (map (whole names calls) (map (λ e. e.0) parts)) ≡ map trees_of_stm (map (λ e. e.0) parts)
+  parts_have_counts [] = refl
+  parts_have_counts (p ∷ ps) =
+      ap (λ n. n ∷ map (λ (p : Part). p.trees) (map (whole names calls) (map (λ e. e.0) ps))) p.1
+      ∙ ap (λ ns. trees_of_stm p.0 ∷ ns) (parts_have_counts ps)
+
+  case_arms_have_counts : (arms : List (CaseArm ((s : Stm) × HasCount s))) →
+      map (case_arm.map Part ℕ (λ p. p.trees)) (map (case_arm.map Stm Part (whole names calls)) (map (case_arm.map ((s : Stm) × HasCount s) Stm (λ e. e.0)) arms))
+      ≡ map (case_arm.map Stm ℕ trees_of_stm) (map (case_arm.map ((s : Stm) × HasCount s) Stm (λ e. e.0)) arms)
+  case_arms_have_counts [] = refl
+  case_arms_have_counts (arm ∷ arms) =
+      ap (λ n. record { member = arm.member; body = n }
+      ∷ map (case_arm.map Part ℕ (λ p. p.trees)) (map (case_arm.map Stm Part (whole names calls)) (map (case_arm.map ((s : Stm) × HasCount s) Stm (λ e. e.0)) arms))) arm.body.1
+      ∙ ap (λ ns. record { member = arm.member; body = trees_of_stm arm.body.0 } ∷ ns) (case_arms_have_counts arms)
+
+  match_arms_have_counts : (arms : List (MatchArm ((s : Stm) × HasCount s))) →
+      map (match_arm.map Part ℕ (λ p. p.trees)) (map (match_arm.map Stm Part (whole names calls)) (map (match_arm.map ((s : Stm) × HasCount s) Stm (λ e. e.0)) arms))
+      ≡ map (match_arm.map Stm ℕ trees_of_stm) (map (match_arm.map ((s : Stm) × HasCount s) Stm (λ e. e.0)) arms)
+  match_arms_have_counts [] = refl
+  match_arms_have_counts (arm ∷ arms) =
+      ap (λ n. record { ctor = arm.ctor; payload = arm.payload; body = n }
+      ∷ map (match_arm.map Part ℕ (λ p. p.trees)) (map (match_arm.map Stm Part (whole names calls)) (map (match_arm.map ((s : Stm) × HasCount s) Stm (λ e. e.0)) arms))) arm.body.1
+      ∙ ap (λ ns. record { ctor = arm.ctor; payload = arm.payload; body = trees_of_stm arm.body.0 } ∷ ns) (match_arms_have_counts arms)
+
   layer_has_count : (y : Stm-F ((s : Stm) × HasCount s)) →
       (part_of names calls (map-Stm Stm Part (whole names calls) (map-Stm ((s : Stm) × HasCount s) Stm (λ e. e.0) y))).trees
       ≡ stm_trees (map-Stm Stm ℕ trees_of_stm (map-Stm ((s : Stm) × HasCount s) Stm (λ e. e.0) y))
   layer_has_count (Ret e) = refl
   layer_has_count (Let x a b) = omega (arith, a.1, b.1)
+  layer_has_count (Seq parts) = ap (λ ns. 2 + sum ns) (parts_have_counts parts)
   layer_has_count (If e a b) = omega (arith, a.1, b.1)
-  layer_has_count (Read r) = refl
-  layer_has_count (Write r e) = refl
-  layer_has_count Fail = refl
+  layer_has_count (Case e arms) = ap (λ ns. 2 + trees_of_expr e + sum_by trees_of_case_arm ns) (case_arms_have_counts arms)
+  layer_has_count (Match e arms) = ap (λ ns. 2 + trees_of_expr e + sum_by trees_of_match_arm ns) (match_arms_have_counts arms)
+  layer_has_count _ = refl
 
   -- a part's count is that of its trees
   pub trees_of_part : (s : Stm) → (whole names calls s).trees ≡ trees_of_stm s

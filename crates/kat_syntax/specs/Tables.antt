@@ -4,8 +4,8 @@ use Rattle.std.specs.Str.{bytes_eq}
 use Rattle.kat_syntax.specs.declared.decl.Param.{Param}
 use Rattle.kat_syntax.specs.declared.decl.TypeName.{TypeName}
 use Rattle.kat_syntax.specs.declared.decl.RegisterKind.{RegisterKind}
-use Rattle.kat_syntax.specs.declared.decl.Decl.{Decl}
-use Rattle.kat_syntax.specs.declared.decl.Decl.TheVariants.{Register, Fun, Step}
+use Rattle.kat_syntax.specs.declared.decl.DeclForm.{DeclForm}
+use Rattle.kat_syntax.specs.declared.decl.DeclForm.TheVariants.{Register, Fun, Step}
 use Rattle.kat_syntax.specs.declared.stm.Stm.{Stm}
 use Rattle.kat_syntax.specs.Trees.{trees_of_type, trees_of_params}
 
@@ -19,7 +19,7 @@ pub record RegisterDecl : Type 0 where
   pub type : TypeName
   pub kind : RegisterKind
 
-abbrev pub registers_of : List Decl → List RegisterDecl
+abbrev pub registers_of : List DeclForm → List RegisterDecl
 registers_of [] = []
 registers_of (Register x type kind ∷ decls) = record { name = x; type = type; kind = kind } ∷ registers_of decls
 registers_of (_ ∷ decls) = registers_of decls
@@ -32,23 +32,23 @@ pub record Function : Type 0 where
   pub body_at : ℕ
 
 -- the function that a declaration of this number declares, if it declares one
-abbrev pub function_at : ℕ → Decl → Option Function
+abbrev pub function_at : ℕ → DeclForm → Option Function
 function_at k (Fun x params result body) =
     Some (record { decl = k; params = params; body = body; body_at = 3 + trees_of_params params + trees_of_type result })
 function_at k _ = None
 
 -- whether a declaration is a function of this name
-abbrev pub is_function : Name → Decl → Bool
+abbrev pub is_function : Name → DeclForm → Bool
 is_function f (Fun x params result body) = bytes_eq x f
 is_function f _ = false
 
 -- the first function of this name, the first declaration having the number k
-abbrev pub function_from : ℕ → List Decl → Name → Option Function
+abbrev pub function_from : ℕ → List DeclForm → Name → Option Function
 function_from k [] f = None
 function_from k (decl ∷ decls) f = if is_function f decl then function_at k decl else function_from (k + 1) decls f
 
 -- the name in the first `(step f)`
-abbrev pub step_of : List Decl → Option Name
+abbrev pub step_of : List DeclForm → Option Name
 step_of [] = None
 step_of (Step f ∷ decls) = Some f
 step_of (_ ∷ decls) = step_of decls

@@ -1,10 +1,12 @@
-// How many trees a form has: itself and all that stands in it, lists and atoms alike. Counts stand still at the
-// greatest u32, which no declaration of a text that can be read comes near.
+// How many trees a form has: itself and all that stands in it, lists and atoms alike. A form's place in its
+// declaration is told by the counts of what stands before it, so no form stores its place. Counts stand still at the
+// greatest u32, which no declaration comes near.
 
 ghost use Rattle.std.specs.Prelude.{◌≡◌};
-ghost use Rattle.kat_syntax.specs.Trees.{capped, numbers_of_op, trees_of_expr, trees_of_stm, trees_of_type, trees_of_params, trees_of_decl};
+ghost use Rattle.kat_syntax.specs.Trees.{capped, numbers_of_op, trees_of_expr, trees_of_exprs, trees_of_stm, trees_of_type, trees_of_params, trees_of_assertion, trees_of_phase, trees_of_when, trees_of_decl};
 
-use crate::decl::{Decl, Param, TypeName};
+use crate::assertion::Assertion;
+use crate::decl::{DeclForm, Param, Phase, TypeName, When};
 use crate::expr::Expr;
 use crate::stm::Stm;
 use kat_value::Op;
@@ -24,8 +26,16 @@ pub fn count_expr(expr: &Expr) -> u32
     ensures { result ≡ capped (trees_of_expr expr.now) }
 {
     match expr {
-        Expr::Name(_) | Expr::Unit => 1,
-        Expr::Bits { .. } => 4,
+        Expr::Name(_) | Expr::Unit | Expr::Truth(_) => 1,
+        Expr::Bits { .. } | Expr::Of { .. } => 4,
+        Expr::Make { payload, .. } => count_expr(payload.get()).saturating_add(3),
+        Expr::Rec { fields, .. } => {
+            let mut total: u32 = 3;
+            for field in fields.as_slice() {
+                total = total.saturating_add(count_expr(field));
+            }
+            total
+        }
         Expr::Apply { op, args } => {
             let mut total = 2 + count_numbers(*op);
             for arg in args.as_slice() {
@@ -33,7 +43,20 @@ pub fn count_expr(expr: &Expr) -> u32
             }
             total
         }
+        Expr::Get { value, .. } => count_expr(value.get()).saturating_add(4),
+        _ => 3,
     }
+}
+
+/// The trees of expressions side by side.
+pub fn count_exprs(exprs: &[Expr]) -> u32
+    ensures { result ≡ capped (trees_of_exprs exprs.now) }
+{
+    let mut total: u32 = 0;
+    for expr in exprs {
+        total = total.saturating_add(count_expr(expr));
+    }
+    total
 }
 
 /// The trees of a statement.
@@ -41,10 +64,19 @@ pub fn count_stm(stm: &Stm) -> u32
     ensures { result ≡ capped (trees_of_stm stm.now) }
 {
     match stm {
-        Stm::Ret(value) => count_expr(value).saturating_add(2),
+        Stm::Ret(value) | Stm::Load(value) | Stm::Check(value) => {
+            count_expr(value).saturating_add(2)
+        }
         Stm::Let { first, then, .. } => count_stm(first.get())
             .saturating_add(count_stm(then.get()))
             .saturating_add(3),
+        Stm::Seq(parts) => {
+            let mut total: u32 = 2;
+            for part in parts.as_slice() {
+                total = total.saturating_add(count_stm(part));
+            }
+            total
+        }
         Stm::If {
             test,
             then,
@@ -53,8 +85,29 @@ pub fn count_stm(stm: &Stm) -> u32
             .saturating_add(count_stm(then.get()))
             .saturating_add(count_stm(otherwise.get()))
             .saturating_add(2),
+        Stm::Case { value, arms } => {
+            let mut total = count_expr(value).saturating_add(2);
+            for arm in arms.as_slice() {
+                total = total.saturating_add(count_stm(&arm.body)).saturating_add(2);
+            }
+            total
+        }
+        Stm::Match { value, arms } => {
+            let mut total = count_expr(value).saturating_add(2);
+            for arm in arms.as_slice() {
+                total = total.saturating_add(count_stm(&arm.body)).saturating_add(3);
+            }
+            total
+        }
         Stm::Read(_) => 3,
         Stm::Write { value, .. } => count_expr(value).saturating_add(3),
+        Stm::Store { index, value } => count_expr(index)
+            .saturating_add(count_expr(value))
+            .saturating_add(2),
+        Stm::Call { args, .. }
+        | Stm::Open { inputs: args, .. }
+        | Stm::Close { inputs: args, .. }
+        | Stm::Lemma { args, .. } => count_exprs(args.as_slice()).saturating_add(3),
         Stm::Fail => 2,
     }
 }
@@ -80,21 +133,55 @@ pub fn count_params(params: &[Param]) -> u32
     total
 }
 
-/// The trees of a declaration.
-pub fn count_decl(decl: &Decl) -> u32
-    ensures { result ≡ capped (trees_of_decl decl.now) }
+/// The trees of an assertion.
+pub fn count_assertion(assertion: &Assertion) -> u32
+    ensures { result ≡ capped (trees_of_assertion assertion.now) }
 {
-    match decl {
-        Decl::Register { ty, .. } => count_type(ty) + 4,
-        Decl::Fun {
-            params,
-            result,
-            body,
-            ..
-        } => count_params(params.as_slice())
-            .saturating_add(count_type(result))
-            .saturating_add(count_stm(body))
-            .saturating_add(3),
-        Decl::Step(_) => 3,
+    match assertion {
+        Assertion::Pure(value) => count_expr(value).saturating_add(2),
+        Assertion::Register { value, .. } => count_expr(value).saturating_add(3),
+        Assertion::Cell { index, value } => count_expr(index)
+            .saturating_add(count_expr(value))
+            .saturating_add(2),
+        Assertion::Star(parts) => {
+            let mut total: u32 = 2;
+            for part in parts.as_slice() {
+                total = total.saturating_add(count_assertion(part));
+            }
+            total
+        }
+        Assertion::If {
+            test,
+            then,
+            otherwise,
+        } => count_expr(test)
+            .saturating_add(count_assertion(then.get()))
+            .saturating_add(count_assertion(otherwise.get()))
+            .saturating_add(2),
+        Assertion::Exists { ty, body, .. } => count_assertion(body.get())
+            .saturating_add(count_type(ty))
+            .saturating_add(4),
+        Assertion::Predicate { args, .. } | Assertion::Region { args, .. } => {
+            count_exprs(args.as_slice()).saturating_add(3)
+        }
     }
+}
+
+/// The trees of a phase.
+pub fn count_phase(phase: &Phase) -> u32
+    ensures { result ≡ trees_of_phase phase.now }
+{
+    match phase {
+        Phase::Block(_) => 3,
+        _ => 1,
+    }
+}
+
+/// The trees of a case of the dispatch.
+pub fn count_when(case: &When) -> u32
+    ensures { result ≡ capped (trees_of_when case.now) }
+{
+    count_expr(&case.test)
+        .saturating_add(count_phase(&case.phase))
+        .saturating_add(2)
 }

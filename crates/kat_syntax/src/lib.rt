@@ -1,19 +1,33 @@
-//! The syntax tree of a specification, and in `specs/` what it means: the meaning of expressions and statements,
-//! one cycle of the machine, a run over a list of events, and the text of a run's states. A tree is plain data;
-//! names are text, and nothing in it points to its declaration.
+//! The syntax tree of a specification, and in `specs/` what it means: the tree of text that each form is written as,
+//! the meaning of expressions and statements, one cycle of the machine, a run over a list of events, and the text of a
+//! run's states. A tree is plain data; names are text, and nothing in it points to its declaration.
 #![tactic(auto)]
 
+mod assertion;
+mod checked;
 mod count;
 mod decl;
 mod expr;
 mod law;
 mod place;
 mod stm;
+mod tables;
+mod wanted;
+mod written;
 
-pub use count::{count_decl, count_expr, count_params, count_stm, count_type};
-pub use decl::{Decl, Param, RegisterKind, Spec, TypeName};
+pub use assertion::Assertion;
+pub use checked::{Checked, StepFunction};
+pub use count::{
+    count_assertion, count_expr, count_exprs, count_params, count_phase, count_stm, count_type,
+    count_when,
+};
+pub use decl::{
+    Block, CellsKind, Decl, DeclForm, Param, Phase, RegisterKind, Spec, TypeName, When,
+};
 pub use expr::Expr;
 pub use kat_value::Op;
 pub use law::{text_tells_its_end, text_tells_states};
 pub use place::Place;
-pub use stm::Stm;
+pub use stm::{CaseArm, MatchArm, Stm};
+pub use wanted::Wanted;
+pub use written::{one_form, places_are_of_the_tree, specifications_can_be_written};

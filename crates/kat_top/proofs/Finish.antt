@@ -9,12 +9,12 @@ use Rattle.kat_syntax.specs.Run.{Run, RunEnd, Ended, OutIn, FailedIn}
 use Rattle.kat_syntax.specs.StateText.{boundary_text_of, end_piece, state_text_of}
 use Rattle.kat_top.specs.declared.status.Status.{Status}
 use Rattle.kat_top.specs.declared.status.Status.TheVariants as status
-use Rattle.kat_top.specs.declared.files.Refusal.{Refusal}
-use Rattle.kat_top.specs.declared.files.Refusal.TheVariants.{Failed, Long, Unbuilt, Memory}
+use Rattle.kat_top.specs.declared.refusal.Refusal.{Refusal}
+use Rattle.kat_top.specs.declared.refusal.Refusal.TheVariants.{Failed, Long, Tree, Form, Unbuilt, Memory}
 use Rattle.kat_top.specs.Answer.{Gave, status_of, run_answer}
 use Rattle.kat_top.specs.Files.{AddsReads, NotedRefusal, IfReadFailed, IfLong, CauseOf, HasCause}
 use Rattle.kat_io.specs.Counts.{Rose}
-use Rattle.kat_top.specs.Runner.{text_owed, text_for_end}
+use Rattle.kat_runner.specs.Runner.{text_owed, text_for_end}
 
 with_both : (held : Option (List ℕ)) (front back : List ℕ) → with_bytes (with_bytes held front) back ≡ with_bytes held (front ++ back)
 with_both None front back = refl
@@ -57,6 +57,8 @@ pub reads_one : (refusal : Refusal) (old new : List (Name × ℕ)) (name : Name)
     NotedRefusal refusal old new name → AddsReads (name ∷ more) old new
 reads_one Failed old new name more noted = (1, noted)
 reads_one Long old new name more noted = (1, noted)
+reads_one (Tree kind offset) old new name more noted = (1, noted)
+reads_one (Form place wanted) old new name more noted = (1, noted)
 reads_one Unbuilt old new name more noted = (1, noted)
 reads_one Memory old new name more noted = ⊎_elim (λ same. (0, same ∙ sym (append-nil old))) (λ read. (1, read)) noted
 
@@ -71,6 +73,8 @@ reads_more old mid new name more read (n, e) =
 pub cause_of : (refusal : Refusal) (failed overlong : Type 0) → IfReadFailed refusal failed → IfLong refusal overlong → CauseOf refusal failed overlong
 cause_of Failed failed overlong f o = f
 cause_of Long failed overlong f o = o
+cause_of (Tree kind offset) failed overlong f o = tt
+cause_of (Form place wanted) failed overlong f o = tt
 cause_of Unbuilt failed overlong f o = tt
 cause_of Memory failed overlong f o = tt
 
@@ -86,5 +90,7 @@ pub cause_before : {A : Type 0} (found : Result A Refusal) (failed overlong fail
 cause_before (Ok a) failed overlong failed' overlong' f o cause = tt
 cause_before (Err Failed) failed overlong failed' overlong' f o cause = f cause
 cause_before (Err Long) failed overlong failed' overlong' f o cause = o cause
+cause_before (Err (Tree kind offset)) failed overlong failed' overlong' f o cause = tt
+cause_before (Err (Form place wanted)) failed overlong failed' overlong' f o cause = tt
 cause_before (Err Unbuilt) failed overlong failed' overlong' f o cause = tt
 cause_before (Err Memory) failed overlong failed' overlong' f o cause = tt

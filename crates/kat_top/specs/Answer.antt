@@ -9,10 +9,12 @@ use Rattle.kat_syntax.specs.Run.{Cycle, Run, RunEnd, Ended, OutIn, FailedIn, run
 use Rattle.kat_syntax.specs.StateText.{newline, state_text_of}
 use Rattle.kat_top.specs.declared.status.Status.{Status}
 use Rattle.kat_top.specs.declared.status.Status.TheVariants as status
-use Rattle.kat_top.specs.declared.files.Refusal.{Refusal}
-use Rattle.kat_top.specs.declared.files.Refusal.TheVariants.{Failed, Long, Unbuilt, Memory}
-use Rattle.kat_top.specs.Files.{AgreesWith, HasCause}
-use Rattle.kat_top.specs.Words.{RunJob}
+use Rattle.kat_syntax.specs.Describes.{canonical_text}
+use Rattle.kat_top.specs.declared.refusal.Refusal.{Refusal}
+use Rattle.kat_top.specs.declared.refusal.Refusal.TheVariants.{Failed, Long, Tree, Form, Unbuilt, Memory}
+use Rattle.kat_top.specs.Refusals.{tree_line, form_line}
+use Rattle.kat_top.specs.Files.{Agrees, IsSpecOf, IsMachineOf, IsStartOf, HasCause}
+use Rattle.kat_top.specs.Words.{RunJob, Job, Run as RunOf, Print}
 
 -- what a call owes
 pub record Answer : Type 0 where
@@ -27,6 +29,8 @@ most_bytes = 4194304
 abbrev pub refusal_of : Name → Refusal → Answer
 refusal_of name Failed = record { status = status.ReadFault; text = codes "read " ++ name ++ newline }
 refusal_of name Long = record { status = status.TooLong; text = codes "long " ++ name ++ codes " " ++ decimal (most_bytes + 1) ++ newline }
+refusal_of name (Tree kind offset) = record { status = status.Form; text = tree_line kind offset }
+refusal_of name (Form place wanted) = record { status = status.Form; text = form_line place wanted }
 refusal_of name Unbuilt = record { status = status.Form; text = codes "unbuilt" ++ newline }
 refusal_of name Memory = record { status = status.Memory; text = [] }
 
@@ -50,10 +54,16 @@ job_answer job (Err refusal) start = refusal_of job.spec refusal
 job_answer job (Ok spec) (Err refusal) = refusal_of job.image refusal
 job_answer job (Ok spec) (Ok start) = run_answer_of job spec start
 
--- the answer to the words, given what the two files stand for
-abbrev pub answer_of : Option RunJob → Result Spec Refusal → Result MachineState Refusal → Answer
+-- the answer to a job whose one file is printed
+abbrev pub print_answer : Name → Result Spec Refusal → Answer
+print_answer name (Err refusal) = refusal_of name refusal
+print_answer name (Ok spec) = record { status = status.Ok; text = canonical_text spec }
+
+-- the answer to the words, given what the files stand for
+abbrev pub answer_of : Option Job → Result Spec Refusal → Result MachineState Refusal → Answer
 answer_of None spec start = record { status = status.Usage; text = codes "usage" ++ newline }
-answer_of (Some job) spec start = job_answer job spec start
+answer_of (Some (RunOf job)) spec start = job_answer job spec start
+answer_of (Some (Print name)) spec start = print_answer name spec
 
 -- a status and what the contents grew by are the answer's; after a failed write, and where memory ran out, the
 -- contents grew by a prefix of its text
@@ -62,20 +72,26 @@ Gave status.WriteFault old new answer = Grew old new answer.text
 Gave status.Memory old new answer = Grew old new answer.text
 Gave given old new answer = (given ≡ answer.status) × (new ≡ with_bytes old answer.text)
 
--- what the files tell agrees with what came of them
-abbrev pub IsAsTold : Option RunJob → (Name → Option (List ℕ)) → Result Spec Refusal → Result MachineState Refusal → Type 0
-IsAsTold None told spec start = Unit {0}
-IsAsTold (Some job) told spec start = AgreesWith (told job.spec) spec × AgreesWith (told job.image) start
+-- what came of an image agrees with what is told of it; without a machine none is asked for
+abbrev pub IsStartAsTold : Result Spec Refusal → Option (List ℕ) → Result MachineState Refusal → Type 0
+IsStartAsTold (Err refusal) told start = Unit {0}
+IsStartAsTold (Ok spec) told start = Agrees (IsStartOf spec) told start
 
--- the answer to a job behind its specification, for what came of the image. A read failed, or found too much, only
+-- what the files tell agrees with what came of them
+abbrev pub IsAsTold : Option Job → (Name → Option (List ℕ)) → Result Spec Refusal → Result MachineState Refusal → Type 0
+IsAsTold None told spec start = Unit {0}
+IsAsTold (Some (RunOf job)) told spec start = Agrees IsMachineOf (told job.spec) spec × IsStartAsTold spec (told job.image) start
+IsAsTold (Some (Print name)) told spec start = Agrees IsSpecOf (told name) spec
+
+-- the answer to a run behind its specification, for what came of the image. A read failed, or found too much, only
 -- where the facts that are given for this hold
 abbrev pub AnsweredFrom : RunJob → Spec → (Name → Option (List ℕ)) → (failed overlong : Type 0) → Status → Option (List ℕ) → Option (List ℕ) → Type 0
 AnsweredFrom job spec told failed overlong given old new =
-    (start : Result MachineState Refusal) × AgreesWith (told job.image) start × HasCause start failed overlong
+    (start : Result MachineState Refusal) × Agrees (IsStartOf spec) (told job.image) start × HasCause start failed overlong
     × Gave given old new (job_answer job (Ok spec) start)
 
--- the answer to the words, for what came of the two files
-abbrev pub Answered : Option RunJob → (Name → Option (List ℕ)) → (failed overlong : Type 0) → Status → Option (List ℕ) → Option (List ℕ) → Type 0
+-- the answer to the words, for what came of the files
+abbrev pub Answered : Option Job → (Name → Option (List ℕ)) → (failed overlong : Type 0) → Status → Option (List ℕ) → Option (List ℕ) → Type 0
 Answered job told failed overlong given old new =
     (spec : Result Spec Refusal) × (start : Result MachineState Refusal) × IsAsTold job told spec start
     × HasCause spec failed overlong × HasCause start failed overlong × Gave given old new (answer_of job spec start)

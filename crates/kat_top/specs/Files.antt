@@ -1,17 +1,55 @@
 -- What came of a file, and what the files tell of it.
 use Rattle.std.specs.Prelude.{◌≡◌, ◌<◌, ◌≤◌, ◌⊎◌, ℕ, List, [], ◌∷◌, ◌++◌, length, take, map, Option, Some, None, IfSome, Result, Ok, Err}
 use Rattle.kat_syntax.specs.Tables.{Name}
-use Rattle.kat_top.specs.Words.{RunJob}
-use Rattle.kat_top.specs.declared.files.Refusal.{Refusal}
-use Rattle.kat_top.specs.declared.files.Refusal.TheVariants.{Failed, Long, Unbuilt, Memory}
+use Rattle.kat_tree.specs.declared.tree.Tree.{Tree}
+use Rattle.kat_tree.specs.Spelling.{Spells}
+use Rattle.kat_tree.specs.Faults.{IsFirstFault}
+use Rattle.kat_syntax.specs.declared.decl.Spec.{Spec}
+use Rattle.kat_syntax.specs.Machine.{MachineState}
+use Rattle.kat_syntax.specs.Describes.{Reads}
+use Rattle.kat_syntax.specs.Runnable.{IsFirstForm}
+use Rattle.kat_forms.specs.Reading.{IsFirstMisfit}
+use Rattle.kat_image.specs.Image.{IsImageOf}
+use Rattle.kat_top.specs.Refusals.{fault_of}
+use Rattle.kat_top.specs.Words.{Job, Run, Print}
+use Rattle.kat_top.specs.declared.refusal.Refusal.{Refusal}
+use Rattle.kat_top.specs.declared.refusal.Refusal.TheVariants.{Failed, Long, Tree as NoTree, Form, Unbuilt, Memory}
 
--- where the bytes are told, a file is too long exactly where they are more than may be read
-abbrev pub AgreesWith : {A : Type 0} → Option (List ℕ) → Result A Refusal → Type 0
-AgreesWith told (Ok a) = IfSome told (λ bytes. length bytes ≤ 4194304)
-AgreesWith told (Err Unbuilt) = IfSome told (λ bytes. length bytes ≤ 4194304)
-AgreesWith told (Err Long) = IfSome told (λ bytes. 4194304 < length bytes)
-AgreesWith told (Err Failed) = Unit {0}
-AgreesWith told (Err Memory) = Unit {0}
+-- What came of a file agrees with what is told of its bytes: a file is too long exactly where they are more than may be
+-- read, and of others this is so of what came of them. Where a read failed or memory ran out nothing is said
+abbrev pub Agrees : {A : Type 0} → (List ℕ → Result A Refusal → Type 0) → Option (List ℕ) → Result A Refusal → Type 0
+Agrees P told (Err Failed) = Unit {0}
+Agrees P told (Err Memory) = Unit {0}
+Agrees P told (Err Long) = IfSome told (λ bytes. 4194304 < length bytes)
+Agrees P told outcome = IfSome told (λ bytes. (length bytes ≤ 4194304) × P bytes outcome)
+
+-- the bytes stand for a specification; or they are no tree; or no specification
+abbrev pub IsSpecOf : List ℕ → Result Spec Refusal → Type 0
+IsSpecOf bytes (Ok spec) = Reads bytes spec
+IsSpecOf bytes (Err (NoTree kind offset)) = IsFirstFault bytes (fault_of kind offset)
+IsSpecOf bytes (Err (Form place wanted)) = (tree : Tree) × Spells bytes tree × IsFirstMisfit tree (record { place = place; wanted = wanted })
+IsSpecOf bytes (Err Memory) = Unit {0}
+IsSpecOf bytes (Err refusal) = ⊥
+
+-- the bytes stand for a specification that can be run; or for none of that form
+abbrev pub IsMachineOf : List ℕ → Result Spec Refusal → Type 0
+IsMachineOf bytes (Ok spec) = Reads bytes spec × IsFirstForm spec
+IsMachineOf bytes (Err Unbuilt) = (spec : Spec) × Reads bytes spec × (IsFirstForm spec → ⊥)
+IsMachineOf bytes (Err refusal) = IsSpecOf bytes (Err refusal)
+
+-- the bytes are an image of a state of the machine; or of none
+abbrev pub IsStartOf : Spec → List ℕ → Result MachineState Refusal → Type 0
+IsStartOf spec bytes (Ok state) = IsImageOf spec bytes state
+IsStartOf spec bytes (Err Unbuilt) = (state : MachineState) → IsImageOf spec bytes state → ⊥
+IsStartOf spec bytes (Err Memory) = Unit {0}
+IsStartOf spec bytes (Err refusal) = ⊥
+
+-- why the bytes of a file were not had: a read failed or memory ran out, or they are too many
+abbrev pub IsLoaded : Option (List ℕ) → Refusal → Type 0
+IsLoaded told Failed = Unit {0}
+IsLoaded told Memory = Unit {0}
+IsLoaded told Long = IfSome told (λ bytes. 4194304 < length bytes)
+IsLoaded told refusal = ⊥
 
 abbrev pub IfReadFailed : Refusal → Type 0 → Type 0
 IfReadFailed Failed P = P
@@ -42,9 +80,10 @@ Noted (Ok a) old new name = new ≡ old ++ (name, 4194304) ∷ []
 Noted (Err refusal) old new name = NotedRefusal refusal old new name
 
 -- the files of a job, in the order in which they are asked for
-abbrev pub files_of : Option RunJob → List Name
+abbrev pub files_of : Option Job → List Name
 files_of None = []
-files_of (Some job) = job.spec ∷ job.image ∷ []
+files_of (Some (Run job)) = job.spec ∷ job.image ∷ []
+files_of (Some (Print spec)) = spec ∷ []
 
 -- the list of reads has gained those of the first of these files
 abbrev pub AddsReads : List Name → List (Name × ℕ) → List (Name × ℕ) → Type 0

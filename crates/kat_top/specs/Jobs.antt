@@ -1,6 +1,12 @@
 -- A job of the code, as the definitions see it.
-use Rattle.kat_top.specs.declared.words.RunJob.{RunJob as CodeJob}
-use Rattle.kat_top.specs.Words.{RunJob}
+use Rattle.kat_top.specs.declared.words.RunJob.{RunJob as CodeRun}
+use Rattle.kat_top.specs.declared.words.Job.{Job as CodeJob}
+use Rattle.kat_top.specs.declared.words.Job.TheVariants as code
+use Rattle.kat_top.specs.Words.{RunJob, Job, Run, Print}
 
-abbrev pub seen_job : CodeJob → RunJob
-seen_job job = record { spec = job.spec.now; image = job.image.now; cycles = job.cycles; calls = job.calls }
+abbrev pub seen_run : CodeRun → RunJob
+seen_run job = record { spec = job.spec.now; image = job.image.now; cycles = job.cycles; calls = job.calls }
+
+abbrev pub seen_job : CodeJob → Job
+seen_job (code.Run job) = Run (seen_run job)
+seen_job (code.Print spec) = Print spec.now

@@ -1,10 +1,7 @@
 pub mod Answer
-pub mod Checked
-pub mod Cycle
+pub mod Refusals
 pub mod Files
+pub mod Complete
 pub mod Jobs
-pub mod Locals
-pub mod Runner
-pub mod Running
 pub mod Statuses
 pub mod Words

@@ -10,6 +10,11 @@ pub record RunJob : Type 0 where
   pub cycles : ℕ
   pub calls : ℕ
 
+-- what the words ask for
+pub data Job : Type 0 where
+  Run : (job : RunJob) → Job
+  Print : (spec : Name) → Job
+
 abbrev pub is_digit : ℕ → Bool
 is_digit byte = nat_le 48 byte && nat_le byte 57
 
@@ -32,8 +37,8 @@ abbrev pub is_reserved : Name → Bool
 is_reserved [] = false
 is_reserved (byte ∷ rest) = byte == 64
 
-abbrev pub with_numbers : Name → Name → Option ℕ → Option ℕ → Option RunJob
-with_numbers spec image (Some cycles) (Some calls) = Some (record { spec = spec; image = image; cycles = cycles; calls = calls })
+abbrev pub with_numbers : Name → Name → Option ℕ → Option ℕ → Option Job
+with_numbers spec image (Some cycles) (Some calls) = Some (Run (record { spec = spec; image = image; cycles = cycles; calls = calls }))
 with_numbers spec image _ _ = None
 
 -- whether the words are `run SPEC IMAGE --cycles N --calls N`, but for the numbers
@@ -41,8 +46,13 @@ abbrev pub are_words_of_run : Name → Name → Name → Name → Name → Bool
 are_words_of_run job spec image cycles_word calls_word =
     bytes_eq job (codes "run") && (bytes_eq cycles_word (codes "--cycles") && (bytes_eq calls_word (codes "--calls") && (not (is_reserved spec) && not (is_reserved image))))
 
+-- `print SPEC`
+abbrev pub print_of : Name → Name → Option Job
+print_of job spec = if bytes_eq job (codes "print") && not (is_reserved spec) then Some (Print spec) else None
+
 -- the job of the words; none where they ask for no job
-abbrev pub job_of : List Name → Option RunJob
+abbrev pub job_of : List Name → Option Job
+job_of (job ∷ spec ∷ []) = print_of job spec
 job_of (job ∷ spec ∷ image ∷ cycles_word ∷ cycles ∷ calls_word ∷ calls ∷ []) =
     if are_words_of_run job spec image cycles_word calls_word
     then with_numbers spec image (number_within 0 1000000 cycles) (number_within 1 1 calls)

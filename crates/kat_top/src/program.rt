@@ -4,18 +4,22 @@ ghost use Rattle.std.specs.Prelude.{◌≡◌, ◌≤◌, ◌∷◌, [], Some, m
 ghost use Rattle.std.specs.String.{string_bytes};
 ghost use Rattle.kat_io.specs.Counts.{Rose};
 ghost use Rattle.kat_top.specs.Answer.{Answered, AnsweredFrom, Gave, IfWriteFault, IfReadFault, IfTooLong, IsOfRun, run_answer_of};
+ghost use Rattle.kat_top.specs.Complete.{IsComplete};
 ghost use Rattle.kat_top.specs.Files.{AddsReads, files_of};
-ghost use Rattle.kat_top.specs.Jobs.{seen_job};
-ghost use Rattle.kat_top.specs.Words.{job_of};
+ghost use Rattle.kat_top.specs.Jobs.{seen_run};
+ghost use Rattle.kat_top.specs.Words.{Run, Print, job_of};
 
-use crate::checked::Checked;
-use crate::files::{load_image, load_machine};
-use crate::runner::{RunEnd, run};
-use crate::say::{refuse, say, say_failed, say_out};
-use crate::state::State;
+use crate::files::{load_image, load_machine, load_spec};
+use crate::say::{refuse, say, say_canonical, say_failed, say_out};
 use crate::status::Status;
-use crate::words::{RunJob, run_job};
+use crate::words::{Job, RunJob, asked_job};
+use kat_forms::written_fits;
+use kat_image::one_state;
 use kat_io::{Files, Sink};
+use kat_runner::{RunEnd, run};
+use kat_state::State;
+use kat_syntax::{Checked, one_form};
+use kat_tree::one_outcome;
 use std::alloc::Global;
 
 // Runs a machine from a state.
@@ -27,7 +31,7 @@ fn run_from<K: Sink>(
     out: &mut K,
 ) -> Status
     ensures faults { K.faults out.old ≤ K.faults out.new }
-    ensures gave { Gave result (K.contents out.old) (K.contents out.new) (run_answer_of (seen_job job.now) machine.now start) }
+    ensures gave { Gave result (K.contents out.old) (K.contents out.new) (run_answer_of (seen_run job.now) machine.now start) }
     ensures write { IfWriteFault result (Rose (K.faults out.old) (K.faults out.new)) }
     ensures of_run { IsOfRun result }
 {
@@ -48,7 +52,7 @@ fn run_machine<F: Files, K: Sink>(
     files: &mut F,
     out: &mut K,
 ) -> Status
-    ensures answer { AnsweredFrom (seen_job job.now) machine.now (F.told files.old)
+    ensures answer { AnsweredFrom (seen_run job.now) machine.now (F.told files.old)
         (Rose (F.faults files.old) (F.faults files.new)) (Rose (F.overlong files.old) (F.overlong files.new)) result (K.contents out.old) (K.contents out.new) }
     ensures write { IfWriteFault result (Rose (K.faults out.old) (K.faults out.new)) }
     ensures read { IfReadFault result (Rose (F.faults files.old) (F.faults files.new)) }
@@ -72,7 +76,7 @@ fn run_files<F: Files, K: Sink>(
     files: &mut F,
     out: &mut K,
 ) -> Status
-    ensures answer { Answered (Some (seen_job job.now)) (F.told files.old)
+    ensures answer { Answered (Some (Run (seen_run job.now))) (F.told files.old)
         (Rose (F.faults files.old) (F.faults files.new)) (Rose (F.overlong files.old) (F.overlong files.new)) result (K.contents out.old) (K.contents out.new) }
     ensures write { IfWriteFault result (Rose (K.faults out.old) (K.faults out.new)) }
     ensures read { IfReadFault result (Rose (F.faults files.old) (F.faults files.new)) }
@@ -81,7 +85,7 @@ fn run_files<F: Files, K: Sink>(
     ensures faults { F.faults files.old ≤ F.faults files.new }
     ensures overlong { F.overlong files.old ≤ F.overlong files.new }
     ensures sink_faults { K.faults out.old ≤ K.faults out.new }
-    ensures reads { AddsReads (files_of (Some (seen_job job.now))) (F.reads files.old) (F.reads files.new) }
+    ensures reads { AddsReads (files_of (Some (Run (seen_run job.now)))) (F.reads files.old) (F.reads files.new) }
 {
     match load_machine(alloc, files, job.spec) {
         Ok(machine) => run_machine(alloc, job, &machine, files, out),
@@ -89,14 +93,61 @@ fn run_files<F: Files, K: Sink>(
     }
 }
 
+// Asks for the specification, and writes its canonical text.
+fn print_file<F: Files, K: Sink>(alloc: Global, name: &str, files: &mut F, out: &mut K) -> Status
+    ensures answer { Answered (Some (Print name.now)) (F.told files.old)
+        (Rose (F.faults files.old) (F.faults files.new)) (Rose (F.overlong files.old) (F.overlong files.new)) result (K.contents out.old) (K.contents out.new) }
+    ensures write { IfWriteFault result (Rose (K.faults out.old) (K.faults out.new)) }
+    ensures read { IfReadFault result (Rose (F.faults files.old) (F.faults files.new)) }
+    ensures long { IfTooLong result (Rose (F.overlong files.old) (F.overlong files.new)) }
+    ensures told { F.told files.new ≡ F.told files.old }
+    ensures faults { F.faults files.old ≤ F.faults files.new }
+    ensures overlong { F.overlong files.old ≤ F.overlong files.new }
+    ensures sink_faults { K.faults out.old ≤ K.faults out.new }
+    ensures reads { AddsReads (files_of (Some (Print name.now))) (F.reads files.old) (F.reads files.new) }
+{
+    match load_spec(alloc, files, name) {
+        Ok(spec) => say_canonical(alloc, out, name, &spec),
+        Err(refusal) => refuse(alloc, out, name, refusal),
+    }
+}
+
+// Does the job of the words.
+fn answered<F: Files, K: Sink>(
+    alloc: Global,
+    words: &[String],
+    files: &mut F,
+    out: &mut K,
+) -> Status
+    ensures answer { Answered (job_of (map string_bytes words.now)) (F.told files.old)
+        (Rose (F.faults files.old) (F.faults files.new)) (Rose (F.overlong files.old) (F.overlong files.new)) result (K.contents out.old) (K.contents out.new) }
+    ensures write { IfWriteFault result (Rose (K.faults out.old) (K.faults out.new)) }
+    ensures read { IfReadFault result (Rose (F.faults files.old) (F.faults files.new)) }
+    ensures long { IfTooLong result (Rose (F.overlong files.old) (F.overlong files.new)) }
+    ensures told { F.told files.new ≡ F.told files.old }
+    ensures faults { F.faults files.old ≤ F.faults files.new }
+    ensures overlong { F.overlong files.old ≤ F.overlong files.new }
+    ensures sink_faults { K.faults out.old ≤ K.faults out.new }
+    ensures reads { AddsReads (files_of (job_of (map string_bytes words.now))) (F.reads files.old) (F.reads files.new) }
+{
+    match asked_job(words) {
+        Some(Job::Run(run)) => run_files(alloc, &run, files, out),
+        Some(Job::Print(spec)) => print_file(alloc, spec, files, out),
+        None => say(out, b"usage\n", Status::Usage),
+    }
+}
+
 /// The whole program: does the job of the words, reads the files that they name, writes the answer, and gives the
 /// status with which the program ends.
 pub fn top<F: Files, K: Sink>(alloc: Global, words: &[String], files: &mut F, out: &mut K) -> Status
-    // The status and what was written are the answer to the words, for a specification and a state that the readers
-    // made of the two files, or for the reason why one was not taken; where the bytes of a file are told, it is too
-    // long exactly where they are more than may be read.
+    // The status and what was written are the answer to the words, for what the bytes that the files tell stand for.
     ensures answer { Answered (job_of (map string_bytes words.now)) (F.told files.old)
         (Rose (F.faults files.old) (F.faults files.new)) (Rose (F.overlong files.old) (F.overlong files.new)) result (K.contents out.old) (K.contents out.new) }
+
+    // Where the files tell what they stand for and no count rose, that answer is given whole, or memory ran out.
+    ensures complete { IsComplete (job_of (map string_bytes words.now)) (F.told files.old)
+        (Rose (F.faults files.old) (F.faults files.new)) (Rose (F.overlong files.old) (F.overlong files.new)) (Rose (K.faults out.old) (K.faults out.new))
+        result (K.contents out.old) (K.contents out.new) }
 
     // A fault comes only where the count of what was handed in rose.
     ensures write { IfWriteFault result (Rose (K.faults out.old) (K.faults out.new)) }
@@ -112,8 +163,9 @@ pub fn top<F: Files, K: Sink>(alloc: Global, words: &[String], files: &mut F, ou
     // The reads that were added are those of the first files that the words name, in order.
     ensures reads { AddsReads (files_of (job_of (map string_bytes words.now))) (F.reads files.old) (F.reads files.new) }
 {
-    match run_job(words) {
-        Some(job) => run_files(alloc, &job, files, out),
-        None => say(out, b"usage\n", Status::Usage),
-    }
+    one_outcome();
+    one_form();
+    written_fits();
+    one_state();
+    answered(alloc, words, files, out)
 }

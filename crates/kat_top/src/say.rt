@@ -5,14 +5,17 @@ ghost use Rattle.std.specs.Fmt.{decimal};
 ghost use Rattle.kat_io.specs.Counts.{Rose};
 ghost use Rattle.kat_syntax.specs.Run.{OutIn, FailedIn};
 ghost use Rattle.kat_syntax.specs.StateText.{newline, end_piece};
-ghost use Rattle.kat_top.specs.Answer.{Gave, IfWriteFault, IfReadFault, IfTooLong, IsOfRun, IsPlain, refusal_of};
+ghost use Rattle.kat_top.specs.Answer.{Gave, IfWriteFault, IfReadFault, IfTooLong, IsOfRun, IsPlain, refusal_of, print_answer};
+ghost use Rattle.kat_top.specs.Refusals.{word_of_kind, word_of_wanted, tree_line, form_line};
 ghost use Rattle.kat_top.specs.declared.status.Status.TheVariants as status;
 
-use crate::files::{MOST_BYTES, Refusal};
+use crate::files::MOST_BYTES;
+use crate::refusal::{Refusal, TreeKind};
 use crate::status::Status;
-use crate::text::{push_decimal, push_failed, push_out};
 use kat_io::{Sink, SinkError};
-use kat_syntax::Place;
+use kat_print::print_spec;
+use kat_runner::{push_decimal, push_failed, push_out};
+use kat_syntax::{Place, Spec, Wanted};
 use std::alloc::{AllocError, Global};
 
 /// Writes a piece, and ends with this status where it was written whole.
@@ -53,6 +56,63 @@ fn long_line(alloc: Global, name: &str) -> Result<Vec<u8>, AllocError>
     Ok(line)
 }
 
+fn word_of_kind(kind: TreeKind) -> &'static str
+    ensures { result.now ≡ word_of_kind kind }
+{
+    match kind {
+        TreeKind::NotText => "text",
+        TreeKind::Unclosed => "unclosed",
+        TreeKind::Stray => "stray",
+        TreeKind::BadToken => "token",
+        TreeKind::Deep => "deep",
+    }
+}
+
+fn word_of_wanted(wanted: Wanted) -> &'static str
+    ensures { result.now ≡ word_of_wanted wanted }
+{
+    match wanted {
+        Wanted::Spec => "spec",
+        Wanted::Version => "version",
+        Wanted::Declaration => "declaration",
+        Wanted::Type => "type",
+        Wanted::Name => "name",
+        Wanted::Number => "number",
+        Wanted::Place => "place",
+        Wanted::Statement => "statement",
+        Wanted::Expression => "expression",
+        Wanted::Assertion => "assertion",
+        Wanted::Phase => "phase",
+        Wanted::Part => "part",
+    }
+}
+
+// The line of a text that is no tree.
+fn tree_line(alloc: Global, kind: TreeKind, offset: u64) -> Result<Vec<u8>, AllocError>
+    ensures { IfOk result (λ line. line.items ≡ tree_line kind offset) }
+{
+    let mut line = Vec::new(alloc);
+    line.extend_from_slice(b"tree ")?;
+    line.extend_from_slice(word_of_kind(kind).as_bytes())?;
+    line.extend_from_slice(b" ")?;
+    push_decimal(&mut line, offset)?;
+    line.extend_from_slice(b"\n")?;
+    Ok(line)
+}
+
+// The line of a tree that is no specification.
+fn form_line(alloc: Global, place: u64, wanted: Wanted) -> Result<Vec<u8>, AllocError>
+    ensures { IfOk result (λ line. line.items ≡ form_line place wanted) }
+{
+    let mut line = Vec::new(alloc);
+    line.extend_from_slice(b"form ")?;
+    push_decimal(&mut line, place)?;
+    line.extend_from_slice(b" ")?;
+    line.extend_from_slice(word_of_wanted(wanted).as_bytes())?;
+    line.extend_from_slice(b"\n")?;
+    Ok(line)
+}
+
 // The line of a run that ran out of calls.
 fn out_line(alloc: Global, cycle: u64) -> Result<Vec<u8>, AllocError>
     ensures { IfOk result (λ line. line.items ≡ end_piece 0 (OutIn cycle)) }
@@ -88,6 +148,14 @@ pub fn refuse<K: Sink>(alloc: Global, out: &mut K, name: &str, refusal: Refusal)
             Ok(line) => say(out, line.as_slice(), Status::TooLong),
             Err(_) => Status::Memory,
         },
+        Refusal::Tree { kind, offset } => match tree_line(alloc, kind, offset) {
+            Ok(line) => say(out, line.as_slice(), Status::Form),
+            Err(_) => Status::Memory,
+        },
+        Refusal::Form { place, wanted } => match form_line(alloc, place, wanted) {
+            Ok(line) => say(out, line.as_slice(), Status::Form),
+            Err(_) => Status::Memory,
+        },
         Refusal::Unbuilt => say(out, b"unbuilt\n", Status::Form),
         Refusal::Memory => Status::Memory,
     }
@@ -115,6 +183,19 @@ pub fn say_failed<K: Sink>(alloc: Global, out: &mut K, cycle: u64, site: Place) 
 {
     match failed_line(alloc, cycle, site) {
         Ok(line) => say(out, line.as_slice(), Status::Failed),
+        Err(_) => Status::Memory,
+    }
+}
+
+/// Writes the canonical text of a specification.
+pub fn say_canonical<K: Sink>(alloc: Global, out: &mut K, name: &str, spec: &Spec) -> Status
+    ensures faults { K.faults out.old ≤ K.faults out.new }
+    ensures gave { Gave result (K.contents out.old) (K.contents out.new) (print_answer name.now (Ok spec.now)) }
+    ensures write { IfWriteFault result (Rose (K.faults out.old) (K.faults out.new)) }
+    ensures of_run { IsOfRun result }
+{
+    match print_spec(alloc, spec) {
+        Ok(text) => say(out, text.as_bytes(), Status::Ok),
         Err(_) => Status::Memory,
     }
 }

@@ -10,3 +10,8 @@ pub mod Sound
 pub mod Exact
 pub mod Owed
 pub mod Numbers
+pub mod Starts
+pub mod Leaves
+pub mod Writing
+pub mod ByParts
+pub mod Marked

@@ -59,7 +59,7 @@ sum_from : (a : ℕ) (ns : List ℕ) → fold (λ x y. x + y) a ns ≡ a + fold 
 sum_from a [] = omega arith
 sum_from a (n ∷ ns) = omega (arith, sum_from (a + n) ns, sum_from (0 + n) ns)
 
-sum-cons : (n : ℕ) (ns : List ℕ) → sum (n ∷ ns) ≡ n + sum ns
+pub sum-cons : (n : ℕ) (ns : List ℕ) → sum (n ∷ ns) ≡ n + sum ns
 sum-cons n ns = omega (arith, sum_from (0 + n) ns)
 
 pub count_of-Atom : (token : Token) → count_of (tree.Atom token) ≡ 1

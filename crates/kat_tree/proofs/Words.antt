@@ -87,7 +87,7 @@ with_digits_from k number (digit ∷ digits) all fits =
     let test : (ltb (digit_value digit) (k + 1) && ltb next (2 ^ 64)) ≡ true = and_from (ltb (digit_value digit) (k + 1)) (ltb next (2 ^ 64)) (lt-ltb (digit_value digit) (k + 1) all.0) (lt-ltb next (2 ^ 64) small) in
     ap (λ b. option_and_then (λ m. with_digits (k + 1) m digits) (cond b (Some next) None)) test ∙ with_digits_from k next digits all.1 fits
 
-digits_number-cons : (base digit : ℕ) (digits : List ℕ) → digits_number base (digit ∷ digits) ≡ with_digits base 0 (digit ∷ digits)
+pub digits_number-cons : (base digit : ℕ) (digits : List ℕ) → digits_number base (digit ∷ digits) ≡ with_digits base 0 (digit ∷ digits)
 digits_number-cons base digit digits =
     cond-false (eqb (length (digit ∷ digits)) 0) None (with_digits base 0 (digit ∷ digits)) (ne_eqb (length (digit ∷ digits)) 0 (λ e. absurd (omega arith)))
 

@@ -5,3 +5,4 @@ pub mod Lexeme
 pub mod Spelling
 pub mod Faults
 pub mod Preorder
+pub mod Written

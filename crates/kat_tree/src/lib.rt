@@ -13,12 +13,15 @@ mod reader;
 mod stack;
 mod tree;
 mod word;
+mod written;
 
 pub use error::TreeError;
+pub use number::number_of_word;
 pub use parts::layers;
 pub use preorder::places;
 pub use read::{one_outcome, one_tree, read_tree};
 pub use tree::{Token, Tree, Trees};
+pub use written::{spelled_is_writable, trees_fit_their_text, written_is_spelled, written_layers};
 
 #[cfg(test)]
 mod tests;

@@ -106,3 +106,22 @@ fn open_brackets(rt: HostRuntime) -> Result<(), Fail> {
     assert_eq!(rt; read.err(), Some(TreeError::Deep(64)));
     Ok(())
 }
+
+#[test]
+fn words_and_their_numbers(rt: HostRuntime) {
+    let cases = [
+        ("0", Some(0)),
+        ("007", Some(7)),
+        ("0x0fF", Some(255)),
+        ("18446744073709551615", Some(18446744073709551615)),
+        ("18446744073709551616", None),
+        ("0x10000000000000000", None),
+        ("0X1", None),
+        ("0x", None),
+        ("", None),
+        ("1_0", None),
+    ];
+    for (word, number) in cases {
+        assert_eq!(rt; number_of_word(word), number, "{word}");
+    }
+}

@@ -159,7 +159,10 @@ fn texts_and_images_that_are_not_built(rt: HostRuntime) -> Result<(), Fail> {
             "(spec 1 (register n (bits 65) plain) (fun f () unit (fail)) (step f))",
             "",
         ),
-        ("(spec 1 (fun f () unit (fail)) (step f)) ; no comment", ""),
+        (
+            "(spec 1 (memory 8 8 0 16) (fun f () unit (fail)) (step f))",
+            "",
+        ),
         (COUNTER, "reg  n 0x01"),
         (COUNTER, "reg n 256"),
         (COUNTER, "reg n 1\nreg n 1"),
@@ -168,6 +171,49 @@ fn texts_and_images_that_are_not_built(rt: HostRuntime) -> Result<(), Fail> {
     for (spec, image) in rows {
         let unbuilt = is_unbuilt(rt.alloc(), spec, image)?;
         assert!(rt; unbuilt, "at {spec} with {image}");
+    }
+    Ok(())
+}
+
+// Whether the job `print` answers so for a text.
+fn print_agrees(alloc: Global, spec: &str, status: Status, text: &str) -> Result<bool, AllocError> {
+    let row = Row {
+        words: "print s",
+        spec: spec.as_bytes(),
+        image: "",
+        failing_read: 0,
+        failing_write: 0,
+        status,
+        text,
+    };
+    agrees(alloc, &row)
+}
+
+#[test]
+fn texts_are_printed_or_refused(rt: HostRuntime) -> Result<(), Fail> {
+    let rows = [
+        (
+            "( spec 0x1(step\n f))  ; a machine",
+            Status::Ok,
+            "(spec 1 (step f))\n",
+        ),
+        ("", Status::Form, "tree unclosed 0\n"),
+        ("(spec 1", Status::Form, "tree unclosed 7\n"),
+        ("(spec 1)(spec 1)", Status::Form, "tree stray 8\n"),
+        ("(spec 1 2x)", Status::Form, "tree token 8\n"),
+        ("(spec 2)", Status::Form, "form 2 version\n"),
+        ("(spec 1 (enum x ()))", Status::Form, "form 6 part\n"),
+        ("(spec 1 (code 0))", Status::Form, "form 3 declaration\n"),
+        (
+            "(spec 1 (fun f () unit (seq)))",
+            Status::Form,
+            "form 8 statement\n",
+        ),
+        ("(spec 1 (cells plain 0 1))", Status::Form, "form 5 place\n"),
+    ];
+    for (spec, status, text) in rows {
+        let agrees = print_agrees(rt.alloc(), spec, status, text)?;
+        assert!(rt; agrees, "at {spec}");
     }
     Ok(())
 }

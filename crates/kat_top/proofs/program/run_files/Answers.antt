@@ -1,7 +1,7 @@
 use Rattle.std.proofs.Common.{ℕ, Ok, Err, List, [], ◌∷◌, Option, subst}
 use Rattle.kat_syntax.specs.Tables.{Name}
-use Rattle.kat_top.specs.Files.{AgreesWith}
-use Rattle.kat_top.specs.declared.files.Refusal.TheVariants.{Memory}
+use Rattle.kat_top.specs.Files.{Agrees, IsStartOf}
+use Rattle.kat_top.specs.declared.refusal.Refusal.TheVariants.{Memory}
 use Rattle.kat_top.proofs.Finish.{reads_one, reads_more, cause_of, cause_before, rose_before}
 use Rattle.kat_top.proofs.program.run_files.Goals as goal
 
@@ -14,7 +14,7 @@ returns-in-Ok-clause-answer g c =
     let from = c.run_machine.ensures.answer in (
       Ok c.in-Ok.machine,
       from.0,
-      (c.in-Ok.ensures.agrees, subst (λ (told : Name → Option (List ℕ)). AgreesWith (told c.args.job.now.image.now) from.0) c.in-Ok.ensures.told from.1),
+      (c.in-Ok.ensures.agrees, subst (λ (told : Name → Option (List ℕ)). Agrees (IsStartOf c.in-Ok.machine) (told c.args.job.now.image.now) from.0) c.in-Ok.ensures.told from.1),
       tt,
       cause_before from.0 _ _ _ _ (rose_before _ _ _ c.in-Ok.ensures.faults) (rose_before _ _ _ c.in-Ok.ensures.overlong) from.2,
       from.3,

@@ -1,13 +1,12 @@
-use Rattle.std.proofs.Common.{Err, subst, Option}
-use Rattle.kat_top.specs.Words.{RunJob}
-use Rattle.kat_io.specs.Counts.{Rose}
-use Rattle.kat_top.specs.Answer.{Answered}
-use Rattle.kat_top.specs.declared.files.Refusal.TheVariants.{Memory}
+use Rattle.kat_top.proofs.Owed.{complete}
 use Rattle.kat_top.proofs.program.top.Goals as goal
 
--- words of no job ask for no file
-pub returns-in-None-clause-answer : goal.returns-in-None-clause-answer
-returns-in-None-clause-answer g c =
-    subst (λ (job : Option RunJob). Answered job (g.F.Files.told c.args.files.now) (Rose (g.F.Files.faults c.args.files.now) (g.F.Files.faults c.args.files.now)) (Rose (g.F.Files.overlong c.args.files.now) (g.F.Files.overlong c.args.files.now)) c.say.result (g.K.Sink.contents c.args.out.now) (g.K.Sink.contents c.say.new.out))
-    c.in-None.ensures
-    (Err Memory, Err Memory, tt, tt, tt, c.say.ensures.gave)
+pub returns-clause-complete : goal.returns-clause-complete
+returns-clause-complete g c =
+    complete (record {
+      one_outcome = c.one_outcome.ensures.one;
+      one_spec = c.one_form.ensures.spec;
+      described_fits = c.written_fits.ensures.spec;
+      one_state = c.one_state.ensures;
+    })
+    _ _ _ _ _ _ _ _ c.answered.ensures.write c.answered.ensures.answer

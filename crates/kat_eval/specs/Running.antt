@@ -1,0 +1,22 @@
+-- What the interpreter keeps, seen as the meaning sees it.
+use Rattle.std.specs.Prelude.{ℕ, ◌+◌, ◌<◌}
+use Rattle.kat_syntax.specs.Machine.{Progress}
+use Rattle.kat_syntax.specs.Meaning.{Here, There, Outcome, Done, Out, Fail}
+use Rattle.kat_eval.specs.declared.running.Running.{Running}
+use Rattle.kat_eval.specs.declared.running.Site.TheVariants.{Here as HereEnd, There as ThereEnd}
+use Rattle.kat_eval.specs.declared.running.StmEnd.{StmEnd}
+use Rattle.kat_eval.specs.declared.running.StmEnd.TheVariants.{Done as DoneEnd, Out as OutEnd, Fail as FailEnd}
+
+abbrev pub progress_of : Running → Progress
+progress_of r = record { state = r.state; left = r.left; stores = r.stores }
+
+abbrev pub outcome_of : StmEnd → Progress → Outcome
+outcome_of (DoneEnd value) progress = Done value progress
+outcome_of OutEnd progress = Out
+outcome_of (FailEnd (HereEnd tree)) progress = Fail (Here tree)
+outcome_of (FailEnd (ThereEnd place)) progress = Fail (There place)
+
+-- a failure of the form itself, moved by at, stays below a bound
+abbrev pub IsBelow : ℕ → ℕ → StmEnd → Type 0
+IsBelow bound at (FailEnd (HereEnd tree)) = at + tree < bound
+IsBelow bound at _ = Unit {0}

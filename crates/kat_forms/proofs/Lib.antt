@@ -1,0 +1,13 @@
+mod AssertionForms
+mod Checking
+mod DeclaredForms
+mod Exprs
+mod Fitting
+mod FittingForms
+mod FoundHeads
+mod Lists
+mod PartsFit
+mod Positions
+mod Rebuilt
+mod StatementForms
+mod Whole

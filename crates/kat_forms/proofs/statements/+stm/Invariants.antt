@@ -1,0 +1,29 @@
+use Rattle.std.proofs.Common.{◌+◌, ◌*◌}
+use Rattle.kat_syntax.specs.Written.{tree_of_stm}
+use Rattle.kat_syntax.specs.Formed.{is_formed_stm}
+use Rattle.kat_forms.specs.Fits.{judged}
+use Rattle.kat_forms.proofs.Lists.{SoFar}
+use Rattle.kat_forms.proofs.StatementForms.{case_tree, case_formed, match_tree, match_formed, counts}
+use Rattle.kat_forms.proofs.statements.+stm.Given as goal
+
+-- each part of a tree has fewer trees than the whole
+abbrev pub decreases-stm_in : goal.decreases-stm_in
+decreases-stm_in l = 2 * (judged l.tree.now).count
+
+abbrev pub decreases-stms_in : goal.decreases-stms_in
+decreases-stms_in l = 2 * counts l.trees.now + 1
+
+abbrev pub decreases-case_arms_in : goal.decreases-case_arms_in
+decreases-case_arms_in l = 2 * counts l.trees.now + 1
+
+abbrev pub decreases-match_arms_in : goal.decreases-match_arms_in
+decreases-match_arms_in l = 2 * counts l.trees.now + 1
+
+abbrev pub invariant-stms_in-loop-tree : goal.invariant-stms_in-loop-tree
+invariant-stms_in-loop-tree l = SoFar tree_of_stm is_formed_stm l.trees l.stms l.tree-index
+
+abbrev pub invariant-case_arms_in-loop-tree : goal.invariant-case_arms_in-loop-tree
+invariant-case_arms_in-loop-tree l = SoFar case_tree case_formed l.trees l.arms l.tree-index
+
+abbrev pub invariant-match_arms_in-loop-tree : goal.invariant-match_arms_in-loop-tree
+invariant-match_arms_in-loop-tree l = SoFar match_tree match_formed l.trees l.arms l.tree-index

@@ -1,0 +1,4 @@
+mod Lines
+mod Assignments
+mod Settings
+mod Reading

@@ -1,0 +1,19 @@
+-- The texts of forms, by their parts.
+use Rattle.std.proofs.Common.{◌≡◌, ℕ, List, [], ◌∷◌, ap, ◌∙◌}
+use Rattle.std.specs.Prelude.{codes}
+use Rattle.std.specs.Fmt.{decimal}
+use Rattle.kat_syntax.specs.declared.expr.Expr.{Expr}
+use Rattle.kat_syntax.specs.declared.expr.Expr.TheOpen.{Expr-F, BeforeCell, Get}
+use Rattle.kat_syntax.specs.declared.expr.Expr.TheVariants as expr
+use Rattle.kat_syntax.specs.declared.expr.Expr.TheViews.{out-Expr, outs-BeforeCell, outs-Get}
+use Rattle.kat_syntax.specs.declared.expr.Expr.TheFolds.{map-Expr, fold_out-Expr}
+use Rattle.kat_print.specs.Texts.{listed, expr_text, text_of_expr}
+
+text_at : (e : Expr) (y : Expr-F Expr) → out-Expr e ≡ y → text_of_expr e ≡ expr_text (map-Expr Expr (List ℕ) text_of_expr y)
+text_at e y is = fold_out-Expr (List ℕ) expr_text e ∙ ap (λ z. expr_text (map-Expr Expr (List ℕ) text_of_expr z)) is
+
+pub text-BeforeCell : (e : Expr) (i : ℕ) → e ≡ expr.BeforeCell i → text_of_expr e ≡ listed (codes "before_cell") (decimal i ∷ [])
+text-BeforeCell e i is = text_at e (BeforeCell i) (ap out-Expr is ∙ outs-BeforeCell i)
+
+pub text-Get : (e : Expr) (r f : List ℕ) (value : Expr) → e ≡ expr.Get r f value → text_of_expr e ≡ listed (codes "get") (r ∷ f ∷ text_of_expr value ∷ [])
+text-Get e r f value is = text_at e (Get r f value) (ap out-Expr is ∙ outs-Get r f value)

@@ -1,0 +1,8 @@
+pub mod Layers
+pub mod Spaces
+pub mod Forms
+pub mod ExprText
+pub mod StmText
+pub mod AssertionText
+pub mod DeclText
+pub mod Reading

@@ -1,0 +1,85 @@
+// Assertions.
+
+ghost use Rattle.std.specs.Prelude.{◌≡◌, ◌++◌, ◌∷◌, OnOk};
+ghost use Rattle.kat_print.specs.Texts.{text_of_assertion, text_holding};
+
+use crate::expressions::{put_named_of, put_named_of_all, put_of, put_of_two, put_part};
+use crate::printed::Printed;
+use crate::types::put_typed;
+use kat_syntax::Assertion;
+use std::alloc::AllocError;
+
+/// An assertion.
+pub fn put_assertion(out: &mut Printed, assertion: &Assertion) -> Result<(), AllocError>
+    ensures { OnOk result (out.new ≡ out.old ++ text_of_assertion assertion.now) }
+{
+    match assertion {
+        Assertion::Pure(test) => put_of(out, "pure", test),
+        Assertion::Register { register, value } => put_named_of(out, "reg", register, value),
+        Assertion::Cell { index, value } => put_of_two(out, "cell", index, value),
+        Assertion::Star(parts) => {
+            out.open("star")?;
+            for part in parts.as_slice() {
+                out.space()?;
+                put_assertion(out, part)?;
+            }
+            out.close()
+        }
+        Assertion::If {
+            test,
+            then,
+            otherwise,
+        } => {
+            out.open("if")?;
+            put_part(out, test)?;
+            out.space()?;
+            put_assertion(out, then.get())?;
+            out.space()?;
+            put_assertion(out, otherwise.get())?;
+            out.close()
+        }
+        Assertion::Exists { name, ty, body } => {
+            out.open("exists")?;
+            out.space()?;
+            put_typed(out, name, ty)?;
+            out.space()?;
+            put_assertion(out, body.get())?;
+            out.close()
+        }
+        Assertion::Predicate { predicate, args } => {
+            put_named_of_all(out, "pred", predicate, args.as_slice())
+        }
+        Assertion::Region { region, args } => {
+            put_named_of_all(out, "region", region, args.as_slice())
+        }
+    }
+}
+
+/// An assertion behind a space.
+pub fn put_assertion_part(out: &mut Printed, assertion: &Assertion) -> Result<(), AllocError>
+    ensures { OnOk result (out.new ≡ out.old ++ 32 ∷ text_of_assertion assertion.now) }
+{
+    out.space()?;
+    put_assertion(out, assertion)
+}
+
+/// A form with one assertion.
+pub fn put_holding(out: &mut Printed, head: &str, assertion: &Assertion) -> Result<(), AllocError>
+    ensures { OnOk result (out.new ≡ out.old ++ text_holding head.now assertion.now) }
+{
+    out.open(head)?;
+    put_assertion_part(out, assertion)?;
+    out.close()
+}
+
+/// A form with one assertion, behind a space.
+pub fn put_holding_part(
+    out: &mut Printed,
+    head: &str,
+    assertion: &Assertion,
+) -> Result<(), AllocError>
+    ensures { OnOk result (out.new ≡ out.old ++ 32 ∷ text_holding head.now assertion.now) }
+{
+    out.space()?;
+    put_holding(out, head, assertion)
+}

@@ -1,0 +1,22 @@
+//! The canonical text of a specification: one space between two trees, none inside the ends of brackets, numbers in
+//! decimal, one newline at the end. It is pushed onto one buffer while the specification is gone over, and no tree of
+//! text is made.
+#![tactic(auto)]
+
+mod assertions;
+mod declarations;
+mod expressions;
+mod law;
+mod print;
+mod printed;
+mod statements;
+mod types;
+
+pub use law::{one_text, reads_back};
+pub use print::{
+    print_spec, push_assertion, push_decl, push_expr, push_params, push_spec, push_stm, push_type,
+};
+pub use printed::Printed;
+
+#[cfg(test)]
+mod tests;

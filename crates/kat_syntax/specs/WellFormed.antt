@@ -1,0 +1,17 @@
+-- What every declaration keeps: it has the form of the language's text.
+use Rattle.std.specs.Prelude.{◌≡◌, ◌<◌, ◌≤◌, ◌^◌, true}
+use Rattle.std.specs.List.{AllByRecursion}
+use Rattle.kat_tree.specs.Lexeme.{nesting}
+use Rattle.kat_tree.specs.Preorder.{count_of}
+use Rattle.kat_tree.specs.Written.{IsToken, tokens_of}
+use Rattle.kat_syntax.specs.declared.decl.DeclForm.{DeclForm}
+use Rattle.kat_syntax.specs.Written.{tree_of_decl}
+use Rattle.kat_syntax.specs.Formed.{is_formed_decl}
+
+-- Each name is a name token other than `true`, `false` and `unit`, no named type is `bool`, and each form has its
+-- count of parts; the text nests at most 63 brackets, and has fewer than 2^32 trees.
+pub record IsDecl (decl : DeclForm) : Type 0 where
+  pub formed : is_formed_decl decl ≡ true
+  pub tokens : AllByRecursion IsToken (tokens_of (tree_of_decl decl))
+  pub nesting : nesting (tree_of_decl decl) ≤ 63
+  pub small : count_of (tree_of_decl decl) < 2 ^ 32

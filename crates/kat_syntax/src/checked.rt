@@ -1,0 +1,117 @@
+// A specification that can be run, with its tables.
+
+ghost use Rattle.std.specs.Prelude.{◌≡◌, ◌+◌, ◌<◌, ◌^◌, true, IfOk};
+ghost use Rattle.kat_names.specs.Names.{position_of};
+ghost use Rattle.kat_syntax.specs.Trees.{trees_of_stm};
+ghost use Rattle.kat_syntax.specs.FirstForm.{is_first_stm};
+ghost use Rattle.kat_syntax.specs.Runnable.{IsFirstForm};
+ghost use Rattle.kat_syntax.specs.Cycle.{register_names};
+ghost use Rattle.kat_syntax.specs.Checked.{IsStepFunction};
+
+use crate::count::{count_params, count_type};
+use crate::decl::{DeclForm, Spec};
+use crate::stm::Stm;
+use crate::tables::{register_list, register_table, step_declaration};
+use kat_names::Table;
+use kat_text::Text;
+use sqlite_items::Items;
+use std::alloc::{AllocError, Global};
+use std::marker::Model;
+
+/// A specification whose cycles can be run: its declarations are of the forms that a machine can be run of, and no tree
+/// has a fault of typing. The table and the list of its registers' names and the number of its step function's
+/// declaration stand beside it, so that no cycle looks for them.
+#[derive(Drop)]
+pub struct Checked {
+    spec: Spec,
+    registers: Table,
+    names: Items<Text>,
+    step: usize,
+}
+
+impl Model for Checked {
+    ghost use Rattle.kat_syntax.specs.declared.decl.Spec.{Spec};
+    ghost use Rattle.kat_syntax.specs.contracts.expr.Expr as expr;
+    ghost use Rattle.kat_syntax.specs.contracts.stm.Stm as stm;
+    ghost use Rattle.kat_syntax.specs.contracts.assertion.Assertion as assertion;
+    ghost use Rattle.std.specs.Coded.{codes};
+
+    ghost Value = { Spec };
+
+    ghost coded = { Prim.hlevel (codes, expr.the_row.coded, stm.the_row.coded, assertion.the_row.coded) };
+
+    ghost use Rattle.kat_syntax.specs.Checked.{HasTables};
+
+    ghost view = { λ c. c.spec };
+
+    ghost invariant = { λ c. HasTables c.spec c.registers c.names c.step };
+}
+
+impl Checked {
+    /// A specification with its tables.
+    pub fn new(alloc: Global, spec: Spec) -> Result<Checked, AllocError>
+        requires { IsFirstForm spec }
+        ensures { IfOk result (λ checked. checked ≡ spec) }
+    {
+        let decls = spec.decls.as_slice();
+        let registers = register_table(alloc, decls)?;
+        let names = register_list(alloc, decls)?;
+        let step = step_declaration(decls);
+        Ok(Checked {
+            spec,
+            registers,
+            names,
+            step,
+        })
+    }
+
+    /// The specification itself.
+    pub fn spec(&self) -> &Spec
+        ensures { result.now ≡ self.now }
+    {
+        &self.spec
+    }
+
+    /// The names of the registers, in order of declaration.
+    pub fn register_names(&self) -> &[Text]
+        ensures { result.now ≡ register_names self.now.decls }
+    {
+        self.names.as_slice()
+    }
+
+    /// The position of the register of this name, if there is one.
+    pub fn register(&self, name: &str) -> Option<u32>
+        ensures { result ≡ position_of (register_names self.now.decls) name.now }
+    {
+        self.registers.find(name).ok()
+    }
+
+    /// The function that a cycle calls.
+    pub fn step_function(&self) -> StepFunction<'_>
+        ensures found { IsStepFunction self.now result.decl result.body.now result.body_at }
+        ensures small { result.body_at + trees_of_stm result.body.now < 2 ^ 32 }
+        ensures first { is_first_stm result.body.now ≡ true }
+    {
+        match self.spec.decls.as_slice()[self.step].form() {
+            DeclForm::Fun {
+                params,
+                result,
+                body,
+                ..
+            } => StepFunction {
+                decl: self.step as u32,
+                body,
+                body_at: 3 + count_params(params.as_slice()) + count_type(result),
+            },
+            _ => unreachable!(),
+        }
+    }
+}
+
+/// The step function's body, with the numbers of its declaration and of its tree there.
+#[derive(Clone, Copy, Drop)]
+pub struct StepFunction<'a> {
+    pub decl: u32,
+    pub body: &'a Stm,
+    pub body_at: u32,
+}

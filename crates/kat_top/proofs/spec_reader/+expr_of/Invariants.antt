@@ -1,4 +1,0 @@
-use Rattle.kat_top.proofs.spec_reader.+expr_of.Given as goal
-
-abbrev pub decreases-expr_of : goal.decreases-expr_of
-decreases-expr_of l = l.levels

@@ -1,0 +1,5 @@
+pub mod Clean
+pub mod Declares
+pub mod Examples
+pub mod Laws
+pub mod Statements

@@ -1,0 +1,5 @@
+pub mod Clean
+pub mod Declares
+pub mod Scopes
+pub mod FirstForm
+pub mod Laws
