@@ -176,7 +176,12 @@ fn texts_and_images_that_are_not_built(rt: HostRuntime) -> Result<(), Fail> {
 }
 
 // Whether the job `print` answers so for a text.
-fn print_agrees(alloc: Global, spec: &str, status: Status, text: &str) -> Result<bool, AllocError> {
+pub(crate) fn print_agrees(
+    alloc: Global,
+    spec: &str,
+    status: Status,
+    text: &str,
+) -> Result<bool, AllocError> {
     let row = Row {
         words: "print s",
         spec: spec.as_bytes(),
