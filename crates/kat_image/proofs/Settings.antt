@@ -5,7 +5,8 @@ use Rattle.std.proofs.lemmas.Bool.{cases_lt, le-leb}
 use Rattle.std.proofs.lemmas.Grind.{common_steps}
 use Rattle.std.proofs.lemmas.List.{take-append-le, get_or_default, get_or-take, get_or_push}
 use Rattle.std.proofs.lemmas.List.Elements.{Contains-append_left, Contains-push, Contains-push_cases}
-use Rattle.std.proofs.Math.Seq.{take-append_seam}
+use Rattle.std.proofs.Math.ListN.{get_or-append}
+use Rattle.std.proofs.Math.Seq.{take-append_seam, get_or-append_seam}
 use Rattle.kat_value.specs.declared.value.Value.{Value}
 use Rattle.kat_value.specs.declared.value.Value.TheVariants.{Bits as BitsValue, Unit as UnitValue}
 use Rattle.kat_syntax.specs.declared.decl.TypeName.{TypeName}
@@ -146,3 +147,24 @@ refused_image spec bytes number state first image =
     let within : at < length (first.lines ++ first.line ∷ first.rest) = grind (arith, common_steps) in
     let same : get_or (first.lines ++ first.line ∷ first.rest) at first.line ≡ first.line = grind (arith, common_steps) in
     first.refused (subst (λ l. MayFollow spec l first.line) (take-append_seam first.lines (first.line ∷ first.rest)) (subst (MayFollow spec (take at (first.lines ++ first.line ∷ first.rest))) same (all at first.line within)))
+
+-- a line that is refused does not stand among those that were taken before another one
+no_earlier : (spec : Spec) (bytes : List ℕ) (n m : ℕ) (x : IsFirstRefused spec bytes n) (y : IsFirstRefused spec bytes m) → length x.lines < length y.lines → ⊥
+no_earlier spec bytes n m x y less =
+    let at = length x.lines in
+    let whole : x.lines ++ x.line ∷ x.rest ≡ y.lines ++ y.line ∷ y.rest = sym x.split ∙ y.split in
+    let front : take at y.lines ≡ x.lines =
+    sym (take-append-le at y.lines (y.line ∷ y.rest) (omega arith)) ∙ ap (take at) (sym whole) ∙ take-append_seam x.lines (x.line ∷ x.rest)
+    in
+    let here : get_or y.lines at x.line ≡ x.line =
+    sym (get_or-append y.lines (y.line ∷ y.rest) x.line at less) ∙ ap (λ l. get_or l at x.line) (sym whole) ∙ get_or-append_seam x.lines x.line x.rest x.line
+    in
+    x.refused (subst (λ l. MayFollow spec l x.line) front (subst (MayFollow spec (take at y.lines)) here (y.taken at x.line less)))
+
+-- so one line is the first that is refused
+pub one_refused : (spec : Spec) (bytes : List ℕ) (n m : ℕ) → IsFirstRefused spec bytes n → IsFirstRefused spec bytes m → n ≡ m
+one_refused spec bytes n m x y =
+    let left : length x.lines < length y.lines → ⊥ = λ less. no_earlier spec bytes n m x y less in
+    let right : length y.lines < length x.lines → ⊥ = λ less. no_earlier spec bytes m n y x less in
+    let a = x.counted in let b = y.counted in
+    omega arith

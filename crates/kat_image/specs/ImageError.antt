@@ -15,3 +15,9 @@ IsFault spec bytes Memory = ⊤
 abbrev pub Gives : Result MachineState ImageError → MachineState → Type 0
 Gives (Ok given) state = given ≡ state
 Gives (Err error) state = error ≡ Memory
+
+-- the answer names this line, unless memory ran out
+abbrev pub Names : Result MachineState ImageError → ℕ → Type 0
+Names (Ok state) number = ⊥
+Names (Err (Line given)) number = given ≡ number
+Names (Err Memory) number = ⊤

@@ -4,8 +4,8 @@ ghost use Rattle.std.specs.Prelude.{◌≡◌, ◌≢◌, ℕ, List, false, repl
 ghost use Rattle.kat_syntax.specs.Machine.{MachineState};
 ghost use Rattle.kat_syntax.specs.Start.{start_of};
 ghost use Rattle.kat_value.specs.Numbers.{IsNumber};
-ghost use Rattle.kat_image.specs.Image.{Line, IsImageOf};
-ghost use Rattle.kat_image.specs.ImageError.{IsFault, Gives};
+ghost use Rattle.kat_image.specs.Image.{Line, IsImageOf, IsFirstRefused};
+ghost use Rattle.kat_image.specs.ImageError.{IsFault, Gives, Names};
 ghost use Rattle.kat_image.specs.Reader.{IsReadTo, IsFree, IsSetTo, Takes};
 ghost use Rattle.kat_image.specs.declared.fault.ImageError.{ImageError};
 
@@ -86,6 +86,8 @@ pub fn read_image(alloc: Global, bytes: &[u8], machine: &Checked) -> Result<Stat
     ensures only { (state : MachineState) → IsImageOf machine.now bytes.now state → Gives result state }
     // A fault names the first line that is not of the format.
     ensures line { IfErr result (IsFault machine.now bytes.now) }
+    // The first line that is not of the format is named, unless memory runs out.
+    ensures first { (number : ℕ) → IsFirstRefused machine.now bytes.now number → Names result number }
     // What is refused is the image of no state.
     ensures refused { IfErr result (λ e. e ≢ ImageError.Memory → (state : MachineState) → IsImageOf machine.now bytes.now state → ⊥) }
 {

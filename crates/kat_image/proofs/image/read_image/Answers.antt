@@ -3,7 +3,7 @@ use Rattle.std.specs.Prelude.{IfSome}
 use Rattle.std.specs.Option.{option_copied}
 use Rattle.kat_image.specs.Image.{IsFirstRefused, IsImageOf}
 use Rattle.kat_image.specs.Reader.{Takes, lines_behind}
-use Rattle.kat_image.proofs.Settings.{one_state, refused_image}
+use Rattle.kat_image.proofs.Settings.{one_state, one_refused, refused_image}
 use Rattle.kat_image.proofs.Reading.{read_none, reads_none, reads_more, reads_all, reads_fault}
 use Rattle.kat_image.proofs.image.read_image.Goals as goal
 
@@ -24,6 +24,9 @@ returns-then-not-take-clause-line c = fault c
 pub returns-then-not-take-clause-only : goal.returns-then-not-take-clause-only
 returns-then-not-take-clause-only c = λ state image. absurd (refused_image c.args.machine.now c.args.bytes.now c.loop-behind.number state (fault c) image)
 
+pub returns-then-not-take-clause-first : goal.returns-then-not-take-clause-first
+returns-then-not-take-clause-first c = λ number other. one_refused c.args.machine.now c.args.bytes.now c.loop-behind.number number (fault c) other
+
 pub returns-then-not-take-clause-refused : goal.returns-then-not-take-clause-refused
 returns-then-not-take-clause-refused c = λ _ state image. refused_image c.args.machine.now c.args.bytes.now c.loop-behind.number state (fault c) image
 
@@ -40,6 +43,9 @@ returns-in_default-clause-found c = whole c
 
 pub returns-in_default-clause-only : goal.returns-in_default-clause-only
 returns-in_default-clause-only c = λ state image. one_state c.args.machine.now c.args.bytes.now c.take.new.self.state state (whole c) image
+
+pub returns-in_default-clause-first : goal.returns-in_default-clause-first
+returns-in_default-clause-first c = λ number other. refused_image c.args.machine.now c.args.bytes.now number c.take.new.self.state other (whole c)
 
 pub loop-behind-preserved : goal.loop-behind-preserved
 loop-behind-preserved c =
