@@ -2,3 +2,4 @@ pub mod Finish
 pub mod Wording
 mod Outcomes
 mod Owed
+mod Rows

@@ -55,10 +55,11 @@ start_not_long spec bytes (Ok state) is = tt
 start_not_long spec bytes (Err Long) is = is
 start_not_long spec bytes (Err _) is = tt
 
--- the refusal of a text is no read that failed or found too much
+-- the refusal of a text: no read failed or found too much, and memory did not run out
 abbrev pub IsOfText : Refusal → Type 0
 IsOfText Failed = ⊥
 IsOfText Long = ⊥
+IsOfText Memory = ⊥
 IsOfText refusal = Unit {0}
 
 -- no part of a list has more trees than all

@@ -13,7 +13,7 @@ use Rattle.kat_syntax.specs.Describes.{canonical_text}
 use Rattle.kat_top.specs.declared.refusal.Refusal.{Refusal}
 use Rattle.kat_top.specs.declared.refusal.Refusal.TheVariants.{Failed, Long, Tree, Form, Unbuilt, Memory}
 use Rattle.kat_top.specs.Refusals.{tree_line, form_line}
-use Rattle.kat_top.specs.Files.{Agrees, IsSpecOf, IsMachineOf, IsStartOf, HasCause}
+use Rattle.kat_top.specs.Files.{Agrees, IsSpecOf, IsMachineOf, IsStartOf, HasCause, Noted, ReadsMade}
 use Rattle.kat_top.specs.Words.{RunJob, Job, Run as RunOf, Print}
 
 -- what a call owes
@@ -83,24 +83,49 @@ IsAsTold None told spec start = Unit {0}
 IsAsTold (Some (RunOf job)) told spec start = Agrees IsMachineOf (told job.spec) spec × IsStartAsTold spec (told job.image) start
 IsAsTold (Some (Print name)) told spec start = Agrees IsSpecOf (told name) spec
 
--- the answer to a run behind its specification, for what came of the image. A read failed, or found too much, only
--- where the facts that are given for this hold
-abbrev pub AnsweredFrom : RunJob → Spec → (Name → Option (List ℕ)) → (failed overlong : Type 0) → Status → Option (List ℕ) → Option (List ℕ) → Type 0
-AnsweredFrom job spec told failed overlong given old new =
-    (start : Result MachineState Refusal) × Agrees (IsStartOf spec) (told job.image) start × HasCause start failed overlong
-    × Gave given old new (job_answer job (Ok spec) start)
+-- this is the answer to a run behind its specification, for what came of the image. A read failed, or found too much,
+-- only where the facts that are given for this hold; and the image was asked for once
+pub record IsAnswerFrom (job : RunJob) (spec : Spec) (told : Option (List ℕ)) (failed overlong : Type 0) (asked noted : List (Name × ℕ)) (answer : Answer) : Type 0 where
+  pub start : Result MachineState Refusal
+  pub as_told : Agrees (IsStartOf spec) told start
+  pub cause : HasCause start failed overlong
+  pub reads : Noted start asked noted job.image
+  pub answer_is : answer ≡ job_answer job (Ok spec) start
 
--- the answer to the words, for what came of the files
-abbrev pub Answered : Option Job → (Name → Option (List ℕ)) → (failed overlong : Type 0) → Status → Option (List ℕ) → Option (List ℕ) → Type 0
-Answered job told failed overlong given old new =
-    (spec : Result Spec Refusal) × (start : Result MachineState Refusal) × IsAsTold job told spec start
-    × HasCause spec failed overlong × HasCause start failed overlong × Gave given old new (answer_of job spec start)
+-- this is the answer to the words, for what came of the files. The image is asked for only behind a machine
+pub record IsAnswerFor (job : Option Job) (told : Name → Option (List ℕ)) (failed overlong : Type 0) (asked noted : List (Name × ℕ)) (answer : Answer) : Type 0 where
+  pub spec : Result Spec Refusal
+  pub start : Result MachineState Refusal
+  pub as_told : IsAsTold job told spec start
+  pub spec_cause : HasCause spec failed overlong
+  pub start_cause : HasCause start failed overlong
+  pub reads : ReadsMade job spec start asked noted
+  pub answer_is : answer ≡ answer_of job spec start
+
+-- an answer to a run behind its specification was given
+abbrev pub AnsweredFrom : RunJob → Spec → Option (List ℕ) → (failed overlong : Type 0) → (asked noted : List (Name × ℕ)) → Status → Option (List ℕ) → Option (List ℕ) → Type 0
+AnsweredFrom job spec told failed overlong asked noted given old new = (answer : Answer) × IsAnswerFrom job spec told failed overlong asked noted answer × Gave given old new answer
+
+-- an answer to the words was given
+abbrev pub Answered : Option Job → (Name → Option (List ℕ)) → (failed overlong : Type 0) → (asked noted : List (Name × ℕ)) → Status → Option (List ℕ) → Option (List ℕ) → Type 0
+Answered job told failed overlong asked noted given old new = (answer : Answer) × IsAnswerFor job told failed overlong asked noted answer × Gave given old new answer
 
 -- a status other than that of a failed write and of want of memory
 abbrev pub IsPlain : Status → Type 0
 IsPlain status.WriteFault = ⊥
 IsPlain status.Memory = ⊥
 IsPlain _ = Unit {0}
+
+-- a fact for all other statuses
+abbrev pub IfPlain : Status → Type 0 → Type 0
+IfPlain status.WriteFault P = Unit {0}
+IfPlain status.Memory P = Unit {0}
+IfPlain _ P = P
+
+-- a prefix of the text of an answer that is owed was written, and the whole unless a write failed or memory ran out
+abbrev pub WrotePrefix : Option Job → (Name → Option (List ℕ)) → (failed overlong : Type 0) → (asked noted : List (Name × ℕ)) → Status → Option (List ℕ) → Option (List ℕ) → Type 0
+WrotePrefix job told failed overlong asked noted given old new =
+    (answer : Answer) × IsAnswerFor job told failed overlong asked noted answer × Grew old new answer.text × IfPlain given (new ≡ with_bytes old answer.text)
 
 -- facts for one status
 abbrev pub IfWriteFault : Status → Type 0 → Type 0
@@ -114,12 +139,3 @@ IfReadFault _ P = Unit {0}
 abbrev pub IfTooLong : Status → Type 0 → Type 0
 IfTooLong status.TooLong P = P
 IfTooLong _ P = Unit {0}
-
--- a status that a run itself ends with
-abbrev pub IsOfRun : Status → Type 0
-IsOfRun status.Ok = Unit {0}
-IsOfRun status.Out = Unit {0}
-IsOfRun status.Failed = Unit {0}
-IsOfRun status.WriteFault = Unit {0}
-IsOfRun status.Memory = Unit {0}
-IsOfRun _ = ⊥

@@ -1,5 +1,6 @@
 -- Where nothing outside fails, the answer is owed: what the files stand for is told, and then no answer but it may come.
-use Rattle.std.specs.Prelude.{◌≡◌, ◌≤◌, ℕ, List, length, Option, Some, None, Result, Ok, Err}
+use Rattle.std.specs.Prelude.{◌≡◌, ◌≤◌, ◌<◌, ◌⊎◌, ℕ, List, length, Option, Some, None, IsSome, Result, Ok, Err}
+use Rattle.std.specs.List.{AllByRecursion}
 use Rattle.kat_io.specs.Contents.{with_bytes}
 use Rattle.kat_syntax.specs.declared.decl.Spec.{Spec}
 use Rattle.kat_syntax.specs.Tables.{Name}
@@ -9,23 +10,21 @@ use Rattle.kat_top.specs.declared.status.Status.TheVariants as status
 use Rattle.kat_top.specs.declared.refusal.Refusal.{Refusal}
 use Rattle.kat_top.specs.declared.refusal.Refusal.TheVariants.{Failed, Long, Memory}
 use Rattle.kat_top.specs.Words.{Job, Run, Print}
-use Rattle.kat_top.specs.Files.{IsSpecOf, IsMachineOf, IsStartOf}
-use Rattle.kat_top.specs.Answer.{Answer, answer_of}
+use Rattle.kat_top.specs.Files.{IsSpecOf, IsMachineOf, IsStartOf, files_of}
+use Rattle.kat_top.specs.Answer.{Answer, answer_of, Gave}
 
--- what comes of a file by its bytes alone
-abbrev pub IsDecided : {A : Type 0} → Result A Refusal → Type 0
-IsDecided (Err Failed) = ⊥
-IsDecided (Err Long) = ⊥
-IsDecided (Err Memory) = ⊥
-IsDecided outcome = Unit {0}
+-- what comes of the bytes of a file by themselves: they are more than are read, or this is so of what they stand for
+abbrev pub ComesOf : {A : Type 0} → (List ℕ → Result A Refusal → Type 0) → List ℕ → Result A Refusal → Type 0
+ComesOf P bytes (Err Failed) = ⊥
+ComesOf P bytes (Err Memory) = ⊥
+ComesOf P bytes (Err Long) = 4194304 < length bytes
+ComesOf P bytes outcome = (length bytes ≤ 4194304) × P bytes outcome
 
--- the bytes of a file are told, they are at most as many as are read, and this is what comes of them
+-- the bytes of a file are told, and this is what comes of them
 pub record IsOwedBy {A : Type 0} (P : List ℕ → Result A Refusal → Type 0) (told : Option (List ℕ)) (outcome : Result A Refusal) : Type 0 where
   pub bytes : List ℕ
   pub is_told : told ≡ Some bytes
-  pub few : length bytes ≤ 4194304
-  pub decided : IsDecided outcome
-  pub comes : P bytes outcome
+  pub comes : ComesOf P bytes outcome
 
 -- what comes of an image; without a machine none is asked for
 abbrev pub IsStartOwed : Result Spec Refusal → Option (List ℕ) → Result MachineState Refusal → Type 0
@@ -38,14 +37,22 @@ IsOwed None told spec start = Unit {0}
 IsOwed (Some (Run job)) told spec start = IsOwedBy IsMachineOf (told job.spec) spec × IsStartOwed spec (told job.image) start
 IsOwed (Some (Print name)) told spec start = IsOwedBy IsSpecOf (told name) spec
 
--- the status and the whole text of the answer, or want of memory
-abbrev pub GaveWhole : Status → Option (List ℕ) → Option (List ℕ) → Answer → Type 0
-GaveWhole status.Memory old new answer = Unit {0}
-GaveWhole given old new answer = (given ≡ answer.status) × (new ≡ with_bytes old answer.text)
+-- the answer that is owed to a job where nothing outside fails, by the bytes that are told of its files
+abbrev pub IsAnswer : Option Job → (Name → Option (List ℕ)) → Answer → Type 0
+IsAnswer job told answer = (spec : Result Spec Refusal) × (start : Result MachineState Refusal) × IsOwed job told spec start × (answer ≡ answer_of job spec start)
 
--- Where the files tell what they stand for, and no count of faults or overlong reads rose, the answer is the one that
--- is owed
-abbrev pub IsComplete : Option Job → (Name → Option (List ℕ)) → (failed overlong unwritten : Type 0) → Status → Option (List ℕ) → Option (List ℕ) → Type 0
-IsComplete job told failed overlong unwritten given old new =
-    (spec : Result Spec Refusal) (start : Result MachineState Refusal) → IsOwed job told spec start →
-    (failed → ⊥) → (overlong → ⊥) → (unwritten → ⊥) → GaveWhole given old new (answer_of job spec start)
+-- the files of a job tell their bytes
+abbrev pub AreTold : Option Job → (Name → Option (List ℕ)) → Type 0
+AreTold job told = AllByRecursion (λ (name : Name). IsSome (told name)) (files_of job)
+
+-- the status and the whole text are those of an answer
+pub record IsGiven (answer : Answer) (given : Status) (old new : Option (List ℕ)) : Type 0 where
+  pub status_is : given ≡ answer.status
+  pub text_is : new ≡ with_bytes old answer.text
+
+-- Where the files tell their bytes, no read fails and no write, the answer that is owed is given, or memory runs out. An
+-- answer that is owed is given wherever no read fails, but for a failed write or want of memory, which leave a prefix of
+-- its text
+pub record IsComplete (job : Option Job) (told : Name → Option (List ℕ)) (failed unwritten : Type 0) (given : Status) (old new : Option (List ℕ)) : Type 0 where
+  pub whole : AreTold job told → (failed → ⊥) → (unwritten → ⊥) → (given ≡ status.Memory) ⊎ ((answer : Answer) × IsAnswer job told answer × IsGiven answer given old new)
+  pub owed : (answer : Answer) → IsAnswer job told answer → (failed → ⊥) → Gave given old new answer

@@ -88,3 +88,11 @@ files_of (Some (Print spec)) = spec ∷ []
 -- the list of reads has gained those of the first of these files
 abbrev pub AddsReads : List Name → List (Name × ℕ) → List (Name × ℕ) → Type 0
 AddsReads names old new = (n : ℕ) × (new ≡ old ++ take n (map (λ name. (name, 4194304)) names))
+
+-- the reads of a job, by what came of its files: the image is asked for only where the specification's file was taken.
+-- Where memory ran out, the last of them may not have been noted
+abbrev pub ReadsMade : Option Job → Result Spec Refusal → Result MachineState Refusal → List (Name × ℕ) → List (Name × ℕ) → Type 0
+ReadsMade None spec start old new = new ≡ old
+ReadsMade (Some (Print name)) spec start old new = Noted spec old new name
+ReadsMade (Some (Run job)) (Err refusal) start old new = NotedRefusal refusal old new job.spec
+ReadsMade (Some (Run job)) (Ok spec) start old new = Noted start (old ++ (job.spec, 4194304) ∷ []) new job.image

@@ -1,7 +1,9 @@
 pub mod Answer
-pub mod Refusals
-pub mod Files
+pub mod Causes
 pub mod Complete
+pub mod FileLaws
+pub mod Files
 pub mod Jobs
+pub mod Refusals
 pub mod Statuses
 pub mod Words

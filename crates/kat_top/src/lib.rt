@@ -3,11 +3,13 @@
 #![tactic(auto)]
 
 mod files;
+mod law;
 mod program;
 mod refusal;
 mod say;
 mod status;
 mod words;
 
+pub use law::one_answer;
 pub use program::top;
 pub use status::Status;

@@ -5,7 +5,7 @@ ghost use Rattle.std.specs.Fmt.{decimal};
 ghost use Rattle.kat_io.specs.Counts.{Rose};
 ghost use Rattle.kat_syntax.specs.Run.{OutIn, FailedIn};
 ghost use Rattle.kat_syntax.specs.StateText.{newline, end_piece};
-ghost use Rattle.kat_top.specs.Answer.{Gave, IfWriteFault, IfReadFault, IfTooLong, IsOfRun, IsPlain, refusal_of, print_answer};
+ghost use Rattle.kat_top.specs.Answer.{Gave, IfWriteFault, IsPlain, refusal_of, print_answer};
 ghost use Rattle.kat_top.specs.Refusals.{word_of_kind, word_of_wanted, tree_line, form_line};
 ghost use Rattle.kat_top.specs.declared.status.Status.TheVariants as status;
 
@@ -136,8 +136,6 @@ pub fn refuse<K: Sink>(alloc: Global, out: &mut K, name: &str, refusal: Refusal)
     ensures faults { K.faults out.old ≤ K.faults out.new }
     ensures gave { Gave result (K.contents out.old) (K.contents out.new) (refusal_of name.now refusal) }
     ensures write { IfWriteFault result (Rose (K.faults out.old) (K.faults out.new)) }
-    ensures read { IfReadFault result (refusal ≡ Refusal.Failed) }
-    ensures long { IfTooLong result (refusal ≡ Refusal.Long) }
 {
     match refusal {
         Refusal::Failed => match read_line(alloc, name) {
@@ -166,7 +164,6 @@ pub fn say_out<K: Sink>(alloc: Global, out: &mut K, cycle: u64) -> Status
     ensures faults { K.faults out.old ≤ K.faults out.new }
     ensures gave { Gave result (K.contents out.old) (K.contents out.new) (record { status = status.Out; text = end_piece 0 (OutIn cycle) }) }
     ensures write { IfWriteFault result (Rose (K.faults out.old) (K.faults out.new)) }
-    ensures of_run { IsOfRun result }
 {
     match out_line(alloc, cycle) {
         Ok(line) => say(out, line.as_slice(), Status::Out),
@@ -179,7 +176,6 @@ pub fn say_failed<K: Sink>(alloc: Global, out: &mut K, cycle: u64, site: Place) 
     ensures faults { K.faults out.old ≤ K.faults out.new }
     ensures gave { Gave result (K.contents out.old) (K.contents out.new) (record { status = status.Failed; text = end_piece 0 (FailedIn cycle site) }) }
     ensures write { IfWriteFault result (Rose (K.faults out.old) (K.faults out.new)) }
-    ensures of_run { IsOfRun result }
 {
     match failed_line(alloc, cycle, site) {
         Ok(line) => say(out, line.as_slice(), Status::Failed),
@@ -192,7 +188,6 @@ pub fn say_canonical<K: Sink>(alloc: Global, out: &mut K, name: &str, spec: &Spe
     ensures faults { K.faults out.old ≤ K.faults out.new }
     ensures gave { Gave result (K.contents out.old) (K.contents out.new) (print_answer name.now (Ok spec.now)) }
     ensures write { IfWriteFault result (Rose (K.faults out.old) (K.faults out.new)) }
-    ensures of_run { IsOfRun result }
 {
     match print_spec(alloc, spec) {
         Ok(text) => say(out, text.as_bytes(), Status::Ok),
