@@ -1,4 +1,4 @@
--- What comes of the bytes of a file is one thing, and so is the answer that is owed.
+-- The answer that is owed is given, and is one.
 use Rattle.std.proofs.Common.{◌≡◌, ℕ, ◌≤◌, ◌<◌, ◌⊎◌, ⊎_elim, inl, inr, List, [], ◌∷◌, length, Option, None, Some, Result, Ok, Err, true, false, refl, ap, sym, subst, ◌∙◌, arith}
 use Rattle.std.proofs.Math.Seq.{take-nil}
 use Rattle.std.specs.Prelude.{IfSome, IsSome}
@@ -33,106 +33,7 @@ use Rattle.kat_top.specs.FileLaws.{FileLaws}
 use Rattle.kat_top.specs.Files.{Agrees, IsSpecOf, IsMachineOf, IsStartOf, HasCause}
 use Rattle.kat_top.specs.Answer.{Answer, refusal_of, print_answer, job_answer, answer_of, Gave, IsStartAsTold, IsAnswerFor, Answered, IfWriteFault}
 use Rattle.kat_top.specs.Complete.{ComesOf, IsOwedBy, IsStartOwed, IsOwed, IsAnswer, AreTold, IsGiven, IsComplete}
-
--- what comes of a file by its bytes alone
-abbrev pub IsDecided : {A : Type 0} → Result A Refusal → Type 0
-IsDecided (Err Failed) = ⊥
-IsDecided (Err Long) = ⊥
-IsDecided (Err Memory) = ⊥
-IsDecided outcome = Unit {0}
-
-all_formed : (decls : List DeclForm) → AllByRecursion IsDecl decls → AllByRecursion (λ (d : DeclForm). is_formed_decl d ≡ true) decls
-all_formed [] all = tt
-all_formed (d ∷ decls) all = (all.0.formed, all_formed decls all.1)
-
-kind_is : (kind : TreeKind) (offset : ℕ) → refused_tree (fault_of kind offset) ≡ Tree kind offset
-kind_is NotText offset = refl
-kind_is Unclosed offset = refl
-kind_is Stray offset = refl
-kind_is BadToken offset = refl
-kind_is Deep offset = refl
-
-module _ (laws : FileLaws) where
-  same_tree : (bytes : List ℕ) (a b : TextTree) → Spells bytes a → Spells bytes b → a ≡ b
-  same_tree bytes a b x y = let e = laws.one_outcome bytes (Ok a) (Ok b) x y in cc
-
-  pub no_fault : (bytes : List ℕ) (tree : TextTree) (kind : TreeKind) (offset : ℕ) → Spells bytes tree → IsFirstFault bytes (fault_of kind offset) → ⊥
-  no_fault bytes tree kind offset x y = let e = laws.one_outcome bytes (Ok tree) (Err (fault_of kind offset)) x y in absurd (cc)
-
-  pub same_spec : (bytes : List ℕ) (a b : Spec) → Reads bytes a → Reads bytes b → a ≡ b
-  same_spec bytes a b x y =
-      let trees = same_tree bytes x.tree y.tree x.spelled y.spelled in
-      laws.one_spec a b (all_formed a.decls x.described.decls) (all_formed b.decls y.described.decls) (sym x.described.tree_is ∙ trees ∙ y.described.tree_is)
-
-  pub no_misfit : (bytes : List ℕ) (spec : Spec) (tree : TextTree) (misfit : Misfit) → Reads bytes spec → Spells bytes tree → IsFirstMisfit tree misfit → ⊥
-  no_misfit bytes spec tree misfit x y m =
-      let e = laws.described_fits x.tree spec x.described in
-      let same = same_tree bytes x.tree tree x.spelled y in
-      let f = ap (fits sort.Spec) same in let g = m.misfits in absurd (cc)
-
-  pub one_reading : (bytes : List ℕ) (a b : Result Spec Refusal) → IsDecided a → IsDecided b → IsSpecOf bytes a → IsSpecOf bytes b → a ≡ b
-  one_reading bytes (Ok a) (Ok b) p q x y = ap Ok (same_spec bytes a b x y)
-  one_reading bytes (Ok a) (Err (Tree kind offset)) p q x y = absurd (no_fault bytes x.tree kind offset x.spelled y)
-  one_reading bytes (Ok a) (Err (Form place wanted)) p q x y = absurd (no_misfit bytes a y.0 _ x y.1 y.2)
-  one_reading bytes (Err (Tree kind offset)) (Ok b) p q x y = absurd (no_fault bytes y.tree kind offset y.spelled x)
-  one_reading bytes (Err (Tree kind offset)) (Err (Tree other at)) p q x y =
-      let e = laws.one_outcome bytes (Err (fault_of kind offset)) (Err (fault_of other at)) x y in
-      let f : fault_of kind offset ≡ fault_of other at = cc in
-      ap Err (sym (kind_is kind offset) ∙ ap refused_tree f ∙ kind_is other at)
-  one_reading bytes (Err (Tree kind offset)) (Err (Form place wanted)) p q x y = absurd (no_fault bytes y.0 kind offset y.1 x)
-  one_reading bytes (Err (Form place wanted)) (Ok b) p q x y = absurd (no_misfit bytes b x.0 _ y x.1 x.2)
-  one_reading bytes (Err (Form place wanted)) (Err (Tree kind offset)) p q x y = absurd (no_fault bytes x.0 kind offset x.1 y)
-  one_reading bytes (Err (Form place wanted)) (Err (Form other what)) p q x y =
-      let same = same_tree bytes x.0 y.0 x.1 y.1 in
-      ap (λ (m : Misfit). Err (Form m.place m.wanted)) (x.2.first ∙ ap (λ t. misfit_of sort.Spec t 0) same ∙ sym y.2.first)
-  one_reading bytes (Err Failed) b p q x y = absurd p
-  one_reading bytes (Err Long) b p q x y = absurd p
-  one_reading bytes (Err Memory) b p q x y = absurd p
-  one_reading bytes (Err Unbuilt) b p q x y = absurd x
-  one_reading bytes a (Err Failed) p q x y = absurd q
-  one_reading bytes a (Err Long) p q x y = absurd q
-  one_reading bytes a (Err Memory) p q x y = absurd q
-  one_reading bytes a (Err Unbuilt) p q x y = absurd y
-
-  pub one_machine : (bytes : List ℕ) (a b : Result Spec Refusal) → IsDecided a → IsDecided b → IsMachineOf bytes a → IsMachineOf bytes b → a ≡ b
-  one_machine bytes (Err Failed) b p q x y = absurd p
-  one_machine bytes (Err Long) b p q x y = absurd p
-  one_machine bytes (Err Memory) b p q x y = absurd p
-  one_machine bytes a (Err Failed) p q x y = absurd q
-  one_machine bytes a (Err Long) p q x y = absurd q
-  one_machine bytes a (Err Memory) p q x y = absurd q
-  one_machine bytes (Ok a) (Ok b) p q x y = ap Ok (same_spec bytes a b x.0 y.0)
-  one_machine bytes (Ok a) (Err Unbuilt) p q x y = absurd (y.2 (subst IsFirstForm (same_spec bytes a y.0 x.0 y.1) x.1))
-  one_machine bytes (Err Unbuilt) (Ok b) p q x y = absurd (x.2 (subst IsFirstForm (same_spec bytes b x.0 y.0 x.1) y.1))
-  one_machine bytes (Err Unbuilt) (Err Unbuilt) p q x y = refl
-  one_machine bytes (Ok a) (Err (Tree kind offset)) p q x y = one_reading bytes (Ok a) (Err (Tree kind offset)) tt tt x.0 y
-  one_machine bytes (Ok a) (Err (Form place wanted)) p q x y = one_reading bytes (Ok a) (Err (Form place wanted)) tt tt x.0 y
-  one_machine bytes (Err (Tree kind offset)) (Ok b) p q x y = one_reading bytes (Err (Tree kind offset)) (Ok b) tt tt x y.0
-  one_machine bytes (Err (Form place wanted)) (Ok b) p q x y = one_reading bytes (Err (Form place wanted)) (Ok b) tt tt x y.0
-  one_machine bytes (Err Unbuilt) (Err (Tree kind offset)) p q x y = let e = one_reading bytes (Ok x.0) (Err (Tree kind offset)) tt tt x.1 y in absurd (cc)
-  one_machine bytes (Err Unbuilt) (Err (Form place wanted)) p q x y = let e = one_reading bytes (Ok x.0) (Err (Form place wanted)) tt tt x.1 y in absurd (cc)
-  one_machine bytes (Err (Tree kind offset)) (Err Unbuilt) p q x y = let e = one_reading bytes (Err (Tree kind offset)) (Ok y.0) tt tt x y.1 in absurd (cc)
-  one_machine bytes (Err (Form place wanted)) (Err Unbuilt) p q x y = let e = one_reading bytes (Err (Form place wanted)) (Ok y.0) tt tt x y.1 in absurd (cc)
-  one_machine bytes (Err (Tree kind offset)) (Err (Tree other at)) p q x y = one_reading bytes (Err (Tree kind offset)) (Err (Tree other at)) tt tt x y
-  one_machine bytes (Err (Tree kind offset)) (Err (Form place wanted)) p q x y = one_reading bytes (Err (Tree kind offset)) (Err (Form place wanted)) tt tt x y
-  one_machine bytes (Err (Form place wanted)) (Err (Tree kind offset)) p q x y = one_reading bytes (Err (Form place wanted)) (Err (Tree kind offset)) tt tt x y
-  one_machine bytes (Err (Form place wanted)) (Err (Form other what)) p q x y = one_reading bytes (Err (Form place wanted)) (Err (Form other what)) tt tt x y
-
-  pub one_start : (spec : Spec) (bytes : List ℕ) (a b : Result MachineState Refusal) → IsDecided a → IsDecided b → IsStartOf spec bytes a → IsStartOf spec bytes b → a ≡ b
-  one_start spec bytes (Err Failed) b p q x y = absurd p
-  one_start spec bytes (Err Long) b p q x y = absurd p
-  one_start spec bytes (Err Memory) b p q x y = absurd p
-  one_start spec bytes (Err (Tree kind offset)) b p q x y = absurd x
-  one_start spec bytes (Err (Form place wanted)) b p q x y = absurd x
-  one_start spec bytes a (Err Failed) p q x y = absurd q
-  one_start spec bytes a (Err Long) p q x y = absurd q
-  one_start spec bytes a (Err Memory) p q x y = absurd q
-  one_start spec bytes a (Err (Tree kind offset)) p q x y = absurd y
-  one_start spec bytes a (Err (Form place wanted)) p q x y = absurd y
-  one_start spec bytes (Ok a) (Ok b) p q x y = ap Ok (laws.one_state spec bytes a b x y)
-  one_start spec bytes (Ok a) (Err Unbuilt) p q x y = absurd (y a x)
-  one_start spec bytes (Err Unbuilt) (Ok b) p q x y = absurd (x b y)
-  one_start spec bytes (Err Unbuilt) (Err Unbuilt) p q x y = refl
+use Rattle.kat_top.proofs.OneOutcome.{IsDecided, one_reading, one_machine, one_start}
 
 -- what came of a file that says nothing of its bytes: a read failed, or memory ran out
 abbrev pub IsUndecided : {A : Type 0} → Result A Refusal → Type 0

@@ -9,8 +9,8 @@ ghost use Rattle.kat_top.specs.Files.{AddsReads, files_of};
 ghost use Rattle.kat_top.specs.Jobs.{asked, seen_run};
 ghost use Rattle.kat_top.specs.Words.{Run, Print};
 
-use crate::law::file_laws;
 use crate::files::{load_image, load_machine, load_spec};
+use crate::law::file_laws;
 use crate::say::{refuse, say, say_canonical, say_failed, say_out};
 use crate::status::Status;
 use crate::words::{Job, RunJob, asked_job};

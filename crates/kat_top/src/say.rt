@@ -1,6 +1,6 @@
 // What is written beside the states of a run.
 
-ghost use Rattle.std.specs.Prelude.{◌≡◌, ◌≤◌, ◌++◌, IfOk, codes};
+ghost use Rattle.std.specs.Prelude.{◌≡◌, ◌≤◌, ◌++◌, ℕ, List, IfOk, codes};
 ghost use Rattle.std.specs.Fmt.{decimal};
 ghost use Rattle.kat_io.specs.Counts.{Rose};
 ghost use Rattle.kat_syntax.specs.Run.{OutIn, FailedIn};
@@ -29,6 +29,19 @@ pub fn say<K: Sink>(out: &mut K, piece: &[u8], status: Status) -> Status
         Ok(()) => status,
         Err(SinkError::Failed) => Status::WriteFault,
         Err(SinkError::Memory) => Status::Memory,
+    }
+}
+
+// Writes a line, and ends with this status where it was written whole.
+fn say_line<K: Sink>(out: &mut K, line: Result<Vec<u8>, AllocError>, status: Status) -> Status
+    requires { IsPlain status }
+    ensures faults { K.faults out.old ≤ K.faults out.new }
+    ensures gave { (text : List ℕ) → IfOk line (λ piece. piece.items ≡ text) → Gave result (K.contents out.old) (K.contents out.new) (record { status = status; text = text }) }
+    ensures write { IfWriteFault result (Rose (K.faults out.old) (K.faults out.new)) }
+{
+    match line {
+        Ok(piece) => say(out, piece.as_slice(), status),
+        Err(_) => Status::Memory,
     }
 }
 
@@ -138,22 +151,14 @@ pub fn refuse<K: Sink>(alloc: Global, out: &mut K, name: &str, refusal: Refusal)
     ensures write { IfWriteFault result (Rose (K.faults out.old) (K.faults out.new)) }
 {
     match refusal {
-        Refusal::Failed => match read_line(alloc, name) {
-            Ok(line) => say(out, line.as_slice(), Status::ReadFault),
-            Err(_) => Status::Memory,
-        },
-        Refusal::Long => match long_line(alloc, name) {
-            Ok(line) => say(out, line.as_slice(), Status::TooLong),
-            Err(_) => Status::Memory,
-        },
-        Refusal::Tree { kind, offset } => match tree_line(alloc, kind, offset) {
-            Ok(line) => say(out, line.as_slice(), Status::Form),
-            Err(_) => Status::Memory,
-        },
-        Refusal::Form { place, wanted } => match form_line(alloc, place, wanted) {
-            Ok(line) => say(out, line.as_slice(), Status::Form),
-            Err(_) => Status::Memory,
-        },
+        Refusal::Failed => say_line(out, read_line(alloc, name), Status::ReadFault),
+        Refusal::Long => say_line(out, long_line(alloc, name), Status::TooLong),
+        Refusal::Tree { kind, offset } => {
+            say_line(out, tree_line(alloc, kind, offset), Status::Form)
+        }
+        Refusal::Form { place, wanted } => {
+            say_line(out, form_line(alloc, place, wanted), Status::Form)
+        }
         Refusal::Unbuilt => say(out, b"unbuilt\n", Status::Form),
         Refusal::Memory => Status::Memory,
     }
@@ -165,10 +170,7 @@ pub fn say_out<K: Sink>(alloc: Global, out: &mut K, cycle: u64) -> Status
     ensures gave { Gave result (K.contents out.old) (K.contents out.new) (record { status = status.Out; text = end_piece 0 (OutIn cycle) }) }
     ensures write { IfWriteFault result (Rose (K.faults out.old) (K.faults out.new)) }
 {
-    match out_line(alloc, cycle) {
-        Ok(line) => say(out, line.as_slice(), Status::Out),
-        Err(_) => Status::Memory,
-    }
+    say_line(out, out_line(alloc, cycle), Status::Out)
 }
 
 /// Says that a run failed in this cycle, at this place.
@@ -177,10 +179,7 @@ pub fn say_failed<K: Sink>(alloc: Global, out: &mut K, cycle: u64, site: Place) 
     ensures gave { Gave result (K.contents out.old) (K.contents out.new) (record { status = status.Failed; text = end_piece 0 (FailedIn cycle site) }) }
     ensures write { IfWriteFault result (Rose (K.faults out.old) (K.faults out.new)) }
 {
-    match failed_line(alloc, cycle, site) {
-        Ok(line) => say(out, line.as_slice(), Status::Failed),
-        Err(_) => Status::Memory,
-    }
+    say_line(out, failed_line(alloc, cycle, site), Status::Failed)
 }
 
 /// Writes the canonical text of a specification.

@@ -23,17 +23,16 @@ returns-in-Ok-clause-answer g c =
     )
 
 pub returns-in-Err-clause-answer : goal.returns-in-Err-clause-answer
-returns-in-Err-clause-answer g c =
-    (
-      _,
-      record {
-        spec = Err c.in-Err.refusal;
-        start = Err Memory;
-        as_told = (c.in-Err.ensures.agrees, tt);
-        spec_cause = cause_of c.in-Err.refusal _ _ c.in-Err.ensures.failed c.in-Err.ensures.long;
-        start_cause = tt;
-        reads = c.in-Err.ensures.reads;
-        answer_is = refl;
-      },
-      c.refuse.ensures.gave,
-    )
+returns-in-Err-clause-answer g c = (
+  _,
+  record {
+    spec = Err c.in-Err.refusal;
+    start = Err Memory;
+    as_told = (c.in-Err.ensures.agrees, tt);
+    spec_cause = cause_of c.in-Err.refusal _ _ c.in-Err.ensures.failed c.in-Err.ensures.long;
+    start_cause = tt;
+    reads = c.in-Err.ensures.reads;
+    answer_is = refl;
+  },
+  c.refuse.ensures.gave,
+)

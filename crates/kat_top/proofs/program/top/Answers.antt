@@ -1,6 +1,7 @@
 use Rattle.kat_top.specs.declared.status.Status.TheVariants as status
+use Rattle.kat_top.proofs.GivenStatus.{wrote_prefix}
 use Rattle.kat_top.proofs.Owed.{complete}
-use Rattle.kat_top.proofs.Rows.{wrote_prefix, usage_row, long_row, form_row, done_row, read_row, overlong_row, reads_row}
+use Rattle.kat_top.proofs.Rows.{usage_row, long_row, form_row, done_row, read_row, overlong_row, reads_row}
 use Rattle.kat_top.proofs.program.top.Goals as goal
 
 pub returns-clause-complete : goal.returns-clause-complete

@@ -1,0 +1,90 @@
+-- How the answer to a file that was not taken came.
+use Rattle.std.proofs.Common.{◌≡◌, ℕ, ◌≤◌, ◌<◌, ◌⊎◌, ⊎_elim, inl, inr, List, [], ◌∷◌, ◌++◌, length, Option, None, Some, Result, Ok, Err, refl, ap, sym, subst, ◌∙◌, arith}
+use Rattle.std.proofs.Math.Seq.{take-length}
+use Rattle.std.proofs.lemmas.List.{append-nil}
+use Rattle.std.specs.Prelude.{IsSome}
+use Rattle.kat_io.specs.Contents.{with_bytes, Grew}
+use Rattle.kat_syntax.specs.declared.decl.Spec.{Spec}
+use Rattle.kat_syntax.specs.Tables.{Name}
+use Rattle.kat_syntax.specs.Machine.{MachineState}
+use Rattle.kat_syntax.specs.Describes.{Reads}
+use Rattle.kat_syntax.specs.Run.{Run as MachineRun, RunEnd, Ended, OutIn, FailedIn}
+use Rattle.kat_syntax.specs.Runnable.{IsFirstForm}
+use Rattle.kat_image.specs.Image.{IsImageOf}
+use Rattle.kat_top.specs.declared.status.Status.{Status}
+use Rattle.kat_top.specs.declared.status.Status.TheVariants as status
+use Rattle.kat_top.specs.declared.refusal.Refusal.{Refusal}
+use Rattle.kat_top.specs.declared.refusal.Refusal.TheVariants.{Failed, Long, Tree, Form, Unbuilt, Memory}
+use Rattle.kat_top.specs.Words.{RunJob, Job, Run, Print}
+use Rattle.kat_top.specs.FileLaws.{FileLaws}
+use Rattle.kat_top.specs.Files.{Agrees, IsSpecOf, IsMachineOf, IsStartOf, CauseOf, HasCause, Noted, ReadsMade, files_of, AddsReads}
+use Rattle.kat_top.specs.Answer.{Answer, refusal_of, status_of, run_answer_of, print_answer, job_answer, answer_of, Gave, IsPlain, IsStartAsTold, IsAnswerFor, Answered, IfPlain, IfReadFault, IfTooLong, WrotePrefix}
+use Rattle.kat_top.specs.Complete.{IsOwedBy, AreTold}
+use Rattle.kat_top.specs.Causes.{StandsFor, StandsForNothing, IsTooLong, IsMachine, HasLongFile, HasNoForm, IsDone, DoneWith, DoneWhole, IsFromOutside, ComesExactly}
+use Rattle.kat_top.proofs.Finish.{reads_one, reads_more}
+use Rattle.kat_top.proofs.Outcomes.{IsOfText}
+use Rattle.kat_top.proofs.Owed.{IsUndecided, met}
+use Rattle.kat_top.proofs.OneOutcome.{same_spec, no_fault, no_misfit, one_reading, one_machine, one_start}
+use Rattle.kat_top.proofs.GivenStatus.{IsOrOutside, given_is, given_comes, plain_gave, gave_as, if_plain, IsDoneStatus, not_done, end_is_done, ran_status, not_usage, undecided_print, undecided_spec, undecided_start, done_is_plain, job_is_no_usage, print_is_no_usage, usage_only, if_read_fault, if_too_long}
+
+-- how the answer to a file that was not taken came: of what failed outside, of bytes that are too many, or of bytes that
+-- stand for nothing
+pub data Came (given : Status) (many text : Type 0) : Type 0 where
+  Outside : IsFromOutside given → Came given many text
+  TooMany : given ≡ status.TooLong → many → Came given many text
+  OfText : given ≡ status.Form → text → Came given many text
+
+-- the same of the bytes that are told of a file
+unfoldable pub CameOf : {A : Type 0} → (List ℕ → Result A Refusal → Type 0) → Name → List ℕ → Refusal → Type 0
+CameOf {A} P name bytes refusal =
+    Came (refusal_of name refusal).status (4194304 < length bytes) ((length bytes ≤ 4194304) × P bytes (Err refusal) × IsOfText refusal)
+
+pub came_of : {A : Type 0} (P : List ℕ → Result A Refusal → Type 0) (name : Name) (bytes : List ℕ) (refusal : Refusal) →
+    Agrees P (Some bytes) (Err refusal) → CameOf P name bytes refusal
+unfolding CameOf
+came_of P name bytes Failed agrees = Outside tt
+came_of P name bytes Memory agrees = Outside tt
+came_of P name bytes Long agrees = TooMany refl agrees
+came_of P name bytes (Tree kind offset) agrees = OfText refl (agrees.0, agrees.1, tt)
+came_of P name bytes (Form place wanted) agrees = OfText refl (agrees.0, agrees.1, tt)
+came_of P name bytes Unbuilt agrees = OfText refl (agrees.0, agrees.1, tt)
+
+module _ (laws : FileLaws) where
+  -- bytes that stand for a machine are not refused as a text
+  pub no_machine : (bytes : List ℕ) (refusal : Refusal) → IsMachineOf bytes (Err refusal) → IsOfText refusal → (spec : Spec) → IsMachine bytes spec → ⊥
+  no_machine bytes (Tree kind offset) is text spec machine = no_fault laws bytes machine.0.tree kind offset machine.0.spelled is
+  no_machine bytes (Form place wanted) is text spec machine = no_misfit laws bytes spec is.0 _ machine.0 is.1 is.2
+  no_machine bytes Unbuilt is text spec machine = is.2 (subst IsFirstForm (same_spec laws bytes spec is.0 machine.0 is.1) machine.1)
+  no_machine bytes Failed is text spec machine = absurd text
+  no_machine bytes Long is text spec machine = absurd text
+  no_machine bytes Memory is text spec machine = absurd text
+
+  -- nor are those that stand for a specification
+  pub no_spec : (bytes : List ℕ) (refusal : Refusal) → IsSpecOf bytes (Err refusal) → IsOfText refusal → (spec : Spec) → Reads bytes spec → ⊥
+  no_spec bytes (Tree kind offset) is text spec reads = no_fault laws bytes reads.tree kind offset reads.spelled is
+  no_spec bytes (Form place wanted) is text spec reads = no_misfit laws bytes spec is.0 _ reads is.1 is.2
+  no_spec bytes Unbuilt is text spec reads = absurd is
+  no_spec bytes Failed is text spec reads = absurd text
+  no_spec bytes Long is text spec reads = absurd text
+  no_spec bytes Memory is text spec reads = absurd text
+
+-- what is said of a file that tells its bytes
+pub agreed : {A : Type 0} (P : List ℕ → Result A Refusal → Type 0) (t : Option (List ℕ)) (bytes : List ℕ) (outcome : Result A Refusal) →
+    t ≡ Some bytes → Agrees P t outcome → Agrees P (Some bytes) outcome
+agreed P t bytes outcome is agrees = subst (λ u. Agrees P u outcome) is agrees
+
+-- a file of few bytes that was not taken was refused by its text, or something outside failed
+pub form_if_few : {A : Type 0} (P : List ℕ → Result A Refusal → Type 0) (name : Name) (bytes : List ℕ) (refusal : Refusal) →
+    length bytes ≤ 4194304 → CameOf P name bytes refusal → IsOrOutside status.Form (refusal_of name refusal).status
+unfolding CameOf
+form_if_few P name bytes refusal few (Outside outside) = inr outside
+form_if_few P name bytes refusal few (TooMany is many) = absurd (omega arith)
+form_if_few P name bytes refusal few (OfText is text) = inl is
+
+-- and one of many bytes because it is too long
+pub long_if_many : {A : Type 0} (P : List ℕ → Result A Refusal → Type 0) (name : Name) (bytes : List ℕ) (refusal : Refusal) →
+    4194304 < length bytes → CameOf P name bytes refusal → IsOrOutside status.TooLong (refusal_of name refusal).status
+unfolding CameOf
+long_if_many P name bytes refusal many (Outside outside) = inr outside
+long_if_many P name bytes refusal many (TooMany is more) = inl is
+long_if_many P name bytes refusal many (OfText is text) = let few = text.0 in absurd (omega arith)
