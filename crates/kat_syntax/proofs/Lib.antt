@@ -5,6 +5,8 @@ pub mod TextNumbers
 pub mod TextValues
 pub mod TextLines
 pub mod TextPieces
+pub mod SoundValues
+pub mod SoundExpr
 pub mod Decoded
 pub mod ExprBack
 pub mod TypeBack

@@ -1,0 +1,13 @@
+// What a specification without faults of typing never meets.
+
+ghost use Rattle.kat_syntax.specs.Soundness.{ExpressionsAreSound};
+
+/// An expression without a fault of typing has a value of its type. This is said of the expressions that a machine can be
+/// run of, each operation having its count of arguments, and of locals that are what their scope says: the same names,
+/// each value being of the type that typing knows of it. Where nothing fixes a type there is no value. So such an
+/// expression never meets an operation on values that it does not take. The function does nothing: its contract is the
+/// law.
+#[tactic(auto, using(crate::proofs::SoundExpr::expressions_sound))]
+pub fn expressions_are_sound()
+    ensures { ExpressionsAreSound }
+{}
