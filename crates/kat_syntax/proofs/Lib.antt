@@ -7,6 +7,8 @@ pub mod TextLines
 pub mod TextPieces
 pub mod SoundValues
 pub mod SoundExpr
+pub mod SoundRegisters
+pub mod SoundStm
 pub mod Decoded
 pub mod ExprBack
 pub mod TypeBack
