@@ -9,6 +9,8 @@ pub mod SoundValues
 pub mod SoundExpr
 pub mod SoundRegisters
 pub mod SoundStm
+pub mod SoundFail
+pub mod SoundCycle
 pub mod Decoded
 pub mod ExprBack
 pub mod TypeBack

@@ -1,6 +1,6 @@
 // What a specification without faults of typing never meets.
 
-ghost use Rattle.kat_syntax.specs.Soundness.{ExpressionsAreSound, StatementsAreSound};
+ghost use Rattle.kat_syntax.specs.Soundness.{ExpressionsAreSound, StatementsAreSound, CyclesAreSound};
 
 /// An expression without a fault of typing has a value of its type. This is said of the expressions that a machine can be
 /// run of, each operation having its count of arguments, and of locals that are what their scope says: the same names,
@@ -20,4 +20,12 @@ pub fn expressions_are_sound()
 #[tactic(auto, using(crate::proofs::SoundStm::statements_sound))]
 pub fn statements_are_sound()
     ensures { StatementsAreSound }
+{}
+
+/// A cycle of a specification that can be run, from a state of its machine and with any number of calls, keeps types: one
+/// that completes leaves a state of the machine, and the place of a failure has numbers below 2^32. A state of the machine
+/// has one value for each register, of its declared type. The function does nothing: its contract is the law.
+#[tactic(auto, using(crate::proofs::SoundCycle::cycles_sound))]
+pub fn cycles_are_sound()
+    ensures { CyclesAreSound }
 {}
