@@ -11,6 +11,8 @@ pub mod SoundRegisters
 pub mod SoundStm
 pub mod SoundFail
 pub mod SoundCycle
+pub mod SoundNames
+pub mod SoundRun
 pub mod Decoded
 pub mod ExprBack
 pub mod TypeBack

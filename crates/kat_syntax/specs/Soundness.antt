@@ -1,5 +1,5 @@
 -- Type soundness: a specification without faults of typing meets no value that is of another type than typing says.
-use Rattle.std.specs.Prelude.{◌≡◌, ◌<◌, ◌^◌, ℕ, true, IsTrue, [], Option, Some, None}
+use Rattle.std.specs.Prelude.{◌≡◌, ◌<◌, ◌^◌, ◌++◌, ℕ, true, IsTrue, List, [], length, Option, Some, None, IfSome}
 use Rattle.std.specs.List.{AllZip, AllByRecursion}
 use Rattle.kat_value.specs.declared.types.Ty.{Ty}
 use Rattle.kat_value.specs.declared.types.Ty.TheVariants.{Bits as bits}
@@ -17,7 +17,10 @@ use Rattle.kat_syntax.specs.Typing.{Scope, is_width, known_of_expr, known_of_stm
 use Rattle.kat_syntax.specs.Machine.{MachineState, Progress}
 use Rattle.kat_syntax.specs.Meaning.{Locals, Outcome, Done, Out, Fail, Calls, value_of_expr, meaning}
 use Rattle.kat_syntax.specs.Cycle.{register_names, CycleOutcome, Completed, OutOfCalls, FailedAt, cycle_of}
-use Rattle.kat_syntax.specs.TextLaw.{IsStateOf}
+use Rattle.kat_syntax.specs.Run.{Event, Poke, poked, Run, run_of}
+use Rattle.kat_syntax.specs.Start.{start_of}
+use Rattle.kat_syntax.specs.StateText.{state_text_of}
+use Rattle.kat_syntax.specs.TextLaw.{HasRegisterNames, IsStateOf, IsOfMachine}
 
 -- a type of the language: one of bits has a width of 1 to 64
 abbrev pub HasWidth : Ty → Type 0
@@ -72,3 +75,46 @@ StatementsAreSound =
 -- a cycle keeps types, from a state of the machine on and with any number of calls
 abbrev pub CyclesAreSound : Type 0
 CyclesAreSound = (spec : Spec) (n : ℕ) (state : MachineState) → CanRun spec → IsStateOf spec state → CycleKeepsTypes spec (cycle_of spec n state)
+
+-- an outside write leaves a state of the machine, of any specification: it writes only numbers that fit, to registers of bits
+abbrev pub OutsideWritesAreSound : Type 0
+OutsideWritesAreSound = (spec : Spec) (poke : Poke) (state : MachineState) → IsStateOf spec state → IfSome (poked spec poke state) (IsStateOf spec)
+
+-- the state before an image is one of the machine
+abbrev pub StartsAreStates : Type 0
+StartsAreStates = (spec : Spec) → IsFirstForm spec → IsStateOf spec (start_of spec)
+
+-- the names of the registers are words and differ
+abbrev pub RegistersAreNamed : Type 0
+RegistersAreNamed = (spec : Spec) → CanRun spec → HasRegisterNames spec
+
+-- a run over few enough events is one of the machine, from a state of the machine on and with any number of calls
+abbrev pub RunsAreSound : Type 0
+RunsAreSound =
+    (spec : Spec) (n : ℕ) (start : MachineState) (events : List Event) → CanRun spec → IsStateOf spec start → length events < 2 ^ 64 →
+    IsOfMachine spec (run_of spec n start events)
+
+-- what makes a run: how many calls each cycle has, a start that is a state of the machine, and few enough events
+pub record Setup (spec : Spec) : Type 0 where
+  pub calls : ℕ
+  pub start : MachineState
+  pub events : List Event
+  pub is_state : IsStateOf spec start
+  pub few : length events < 2 ^ 64
+
+-- the run that it makes
+abbrev pub run_in : (spec : Spec) → Setup spec → Run
+run_in spec setup = run_of spec setup.calls setup.start setup.events
+
+-- two runs of a specification that print the same text are the same run
+abbrev pub TextTellsItsRun : Type 0
+TextTellsItsRun =
+    (spec : Spec) (first second : Setup spec) → CanRun spec →
+    state_text_of spec (run_in spec first) ≡ state_text_of spec (run_in spec second) → run_in spec first ≡ run_in spec second
+
+-- where the texts of two runs of a specification begin one text, they are the same run, and so is what follows
+abbrev pub BeginningTellsItsRun : Type 0
+BeginningTellsItsRun =
+    (spec : Spec) (first second : Setup spec) (more other : List ℕ) → CanRun spec →
+    state_text_of spec (run_in spec first) ++ more ≡ state_text_of spec (run_in spec second) ++ other →
+    (run_in spec first ≡ run_in spec second) × (more ≡ other)

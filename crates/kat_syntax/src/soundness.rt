@@ -1,6 +1,6 @@
 // What a specification without faults of typing never meets.
 
-ghost use Rattle.kat_syntax.specs.Soundness.{ExpressionsAreSound, StatementsAreSound, CyclesAreSound};
+ghost use Rattle.kat_syntax.specs.Soundness.{ExpressionsAreSound, StatementsAreSound, CyclesAreSound, OutsideWritesAreSound, StartsAreStates, RegistersAreNamed, RunsAreSound, TextTellsItsRun, BeginningTellsItsRun};
 
 /// An expression without a fault of typing has a value of its type. This is said of the expressions that a machine can be
 /// run of, each operation having its count of arguments, and of locals that are what their scope says: the same names,
@@ -28,4 +28,40 @@ pub fn statements_are_sound()
 #[tactic(auto, using(crate::proofs::SoundCycle::cycles_sound))]
 pub fn cycles_are_sound()
     ensures { CyclesAreSound }
+{}
+
+/// The registers of a specification that can be run have names that differ, each one word without a space: it is one whose
+/// declarations are of the language's text and of the first form, and no tree of which has a fault of typing. The function
+/// does nothing: its contract is the law.
+#[tactic(auto, using(crate::proofs::SoundNames::registers_named))]
+pub fn registers_are_named()
+    ensures { RegistersAreNamed }
+{}
+
+/// The state in which every register has the first value of its type is a state of the machine. The function does nothing:
+/// its contract is the law.
+#[tactic(auto, using(crate::proofs::SoundRegisters::start_is_state))]
+pub fn starts_are_states()
+    ensures { StartsAreStates }
+{}
+
+/// A run of a specification that can be run, from a state of its machine, with any number of calls in a cycle and over any
+/// cycles and outside writes, fewer than 2^64, is a run of the machine: the state at every boundary has one value for each
+/// register, of its declared type, and the numbers of its end are below 2^64. An outside write keeps to this in any
+/// specification. The function does nothing: its contract is the law.
+#[tactic(auto, using(crate::proofs::SoundRun::runs_sound, crate::proofs::SoundRun::outside_writes_sound))]
+pub fn runs_are_sound()
+    ensures runs { RunsAreSound }
+    ensures outside_writes { OutsideWritesAreSound }
+{}
+
+/// The output of a run tells the run, of every specification that can be run: two runs that print the same text are the
+/// same, whatever their starts, calls and events were; and where one text begins with the texts of two runs, they are the
+/// same run, so that an output that was cut off is the output of no run of that machine. Nothing is supposed of the states
+/// that the runs pass through, as in [`crate::text_tells_states`]: that these are of the machine is type soundness. The
+/// function does nothing: its contract is the law.
+#[tactic(auto, using(crate::proofs::SoundRun::text_tells_its_run, crate::proofs::SoundRun::beginning_tells_its_run))]
+pub fn text_tells_its_run()
+    ensures whole { TextTellsItsRun }
+    ensures beginning { BeginningTellsItsRun }
 {}
