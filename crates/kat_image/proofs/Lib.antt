@@ -2,3 +2,4 @@ mod Lines
 mod Assignments
 mod Settings
 mod Reading
+mod States

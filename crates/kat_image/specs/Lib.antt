@@ -1,3 +1,4 @@
 pub mod Image
 pub mod ImageError
 pub mod Reader
+pub mod States

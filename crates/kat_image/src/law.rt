@@ -6,6 +6,9 @@ ghost use Rattle.kat_syntax.specs.declared.decl.Spec.{Spec};
 ghost use Rattle.kat_syntax.specs.Machine.{MachineState};
 ghost use Rattle.kat_syntax.specs.Start.{start_of};
 ghost use Rattle.kat_image.specs.Image.{IsImageOf, Lacks, lines_of};
+ghost use Rattle.kat_image.specs.States.{ImagesAreStates};
+
+use kat_syntax::starts_are_states;
 
 /// Bytes are an image of at most one state of a specification.
 pub fn one_state()
@@ -22,3 +25,11 @@ pub fn lines_are_the_text()
     ensures joined { (bytes : List ℕ) → join_with_byte 10 (lines_of bytes) ≡ bytes }
     ensures whole { (bytes : List ℕ) → All (Lacks 10) (lines_of bytes) }
 {}
+
+/// The state of an image is one of the machine: it has one value for each register, of its declared type. This is said of
+/// the specifications of the first form without faults of typing.
+pub fn images_are_states()
+    ensures { ImagesAreStates }
+{
+    starts_are_states();
+}

@@ -9,4 +9,4 @@ mod line;
 
 pub use fault::ImageError;
 pub use image::read_image;
-pub use law::{lines_are_the_text, no_lines_are_the_start, one_state};
+pub use law::{images_are_states, lines_are_the_text, no_lines_are_the_start, one_state};

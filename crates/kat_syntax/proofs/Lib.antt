@@ -5,6 +5,14 @@ pub mod TextNumbers
 pub mod TextValues
 pub mod TextLines
 pub mod TextPieces
+pub mod SoundValues
+pub mod SoundExpr
+pub mod SoundRegisters
+pub mod SoundStm
+pub mod SoundFail
+pub mod SoundCycle
+pub mod SoundNames
+pub mod SoundRun
 pub mod Decoded
 pub mod ExprBack
 pub mod TypeBack

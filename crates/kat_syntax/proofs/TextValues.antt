@@ -46,7 +46,7 @@ truth_of v h =
     let found = truth_layer (out-Value v) (has_layer bool v h) in
     (found.0, sym (roll-out-Value v) ∙ ap roll-Value found.1 ∙ rolls-Bool found.0)
 
-number_of : (w : ℕ) (v : Value) → HasType [] (bits w) v → (n : ℕ) × (v ≡ Number w n) × (n < 2 ^ w)
+pub number_of : (w : ℕ) (v : Value) → HasType [] (bits w) v → (n : ℕ) × (v ≡ Number w n) × (n < 2 ^ w)
 number_of w v h =
     let found = number_layer w (out-Value v) (has_layer (bits w) v h) in
     (found.0, sym (roll-out-Value v) ∙ ap roll-Value found.1 ∙ rolls-Bits w found.0, found.2)

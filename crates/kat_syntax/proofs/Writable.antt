@@ -18,10 +18,10 @@ use Rattle.kat_syntax.specs.Written.{word, number, tree_of_decl}
 use Rattle.kat_syntax.specs.WellFormed.{IsDecl}
 use Rattle.kat_syntax.specs.Describes.{tree_of_spec}
 
-tokens_of-Atom : (token : Token) → tokens_of (tree.Atom token) ≡ token ∷ []
+pub tokens_of-Atom : (token : Token) → tokens_of (tree.Atom token) ≡ token ∷ []
 tokens_of-Atom token = ap tokens_of (sym (rolls-Atom token)) ∙ fold-roll-Tree (List Token) tokens_in (Tree-F.Atom token)
 
-tokens_of-List : (parts : List Tree) → tokens_of (tree.List parts) ≡ joined (map tokens_of parts)
+pub tokens_of-List : (parts : List Tree) → tokens_of (tree.List parts) ≡ joined (map tokens_of parts)
 tokens_of-List parts = ap tokens_of (sym (rolls-List parts)) ∙ fold-roll-Tree (List Token) tokens_in (Tree-F.List parts)
 
 nesting-Atom : (token : Token) → nesting (tree.Atom token) ≡ 0

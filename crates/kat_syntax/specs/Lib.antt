@@ -14,6 +14,7 @@ pub mod Start
 pub mod StateText
 pub mod MeaningLaws
 pub mod TextLaw
+pub mod Soundness
 pub mod Typing
 pub mod Runnable
 pub mod TypingLaws

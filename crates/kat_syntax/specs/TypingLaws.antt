@@ -94,7 +94,7 @@ module _ (spec : Spec) (typed : IsTyped spec) where
   no_taken_faults : taken_faults [] (names_from 0 spec.decls) ≡ []
   no_taken_faults = empty_first _ _ behind_steps
 
-  no_inner_faults : inner_faults spec.decls 0 spec.decls ≡ []
+  pub no_inner_faults : inner_faults spec.decls 0 spec.decls ≡ []
   no_inner_faults = empty_second (taken_faults [] (names_from 0 spec.decls)) _ behind_steps
 
   -- the registers of a typed specification have distinct names

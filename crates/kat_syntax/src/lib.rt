@@ -10,6 +10,7 @@ mod decl;
 mod expr;
 mod law;
 mod place;
+mod soundness;
 mod stm;
 mod tables;
 mod wanted;
@@ -28,6 +29,10 @@ pub use expr::Expr;
 pub use kat_value::Op;
 pub use law::{text_tells_its_end, text_tells_states};
 pub use place::Place;
+pub use soundness::{
+    cycles_are_sound, expressions_are_sound, registers_are_named, runs_are_sound,
+    starts_are_states, statements_are_sound, text_tells_its_run,
+};
 pub use stm::{CaseArm, MatchArm, Stm};
 pub use wanted::Wanted;
 pub use written::{one_form, places_are_of_the_tree, specifications_can_be_written};

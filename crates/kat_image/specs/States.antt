@@ -1,0 +1,11 @@
+-- What an image stands for, in a machine that can be run.
+use Rattle.std.specs.Prelude.{ℕ, List}
+use Rattle.kat_syntax.specs.declared.decl.Spec.{Spec}
+use Rattle.kat_syntax.specs.Runnable.{IsFirstForm}
+use Rattle.kat_syntax.specs.Machine.{MachineState}
+use Rattle.kat_syntax.specs.TextLaw.{IsStateOf}
+use Rattle.kat_image.specs.Image.{IsImageOf}
+
+-- an image stands for states of the machine alone
+abbrev pub ImagesAreStates : Type 0
+ImagesAreStates = (spec : Spec) (bytes : List ℕ) (state : MachineState) → IsFirstForm spec → IsImageOf spec bytes state → IsStateOf spec state
