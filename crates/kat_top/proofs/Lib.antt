@@ -9,3 +9,4 @@ mod FormRow
 mod LongRow
 mod DoneRow
 mod Rows
+mod ToldRuns

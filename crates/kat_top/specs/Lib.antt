@@ -6,4 +6,5 @@ pub mod Files
 pub mod Jobs
 pub mod Refusals
 pub mod Statuses
+pub mod Told
 pub mod Words

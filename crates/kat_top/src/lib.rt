@@ -10,6 +10,6 @@ mod say;
 mod status;
 mod words;
 
-pub use law::one_answer;
+pub use law::{one_answer, text_tells_told_run};
 pub use program::top;
 pub use status::Status;

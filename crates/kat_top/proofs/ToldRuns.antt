@@ -1,0 +1,37 @@
+-- The runs of machines and images that files tell are runs of their machines.
+use Rattle.std.proofs.Common.{◌≡◌, ℕ, ◌<◌, ◌≤◌, ◌^◌, List, ◌++◌, length, replicate, sym, ap, subst, ◌∙◌, arith}
+use Rattle.std.proofs.lemmas.List.{length-replicate}
+use Rattle.kat_syntax.specs.declared.decl.Spec.{Spec}
+use Rattle.kat_syntax.specs.Run.{Event, Cycle, Run}
+use Rattle.kat_syntax.specs.StateText.{state_text_of}
+use Rattle.kat_syntax.specs.Soundness.{CanRun, Setup, run_in, TextTellsItsRun, BeginningTellsItsRun}
+use Rattle.kat_image.specs.States.{ImagesAreStates}
+use Rattle.kat_top.specs.Told.{IsToldRun, TextTellsToldRun, BeginningTellsToldRun}
+
+can_run : (spec : Spec) (run : Run) → IsToldRun spec run → CanRun spec
+can_run spec run told = let machine = told.machine.stands in record { first = machine.1; written = machine.0.described.decls }
+
+few_events : (n : ℕ) → n ≤ 1000000 → length (replicate n Cycle) < 2 ^ 64
+few_events n few = let counted : length (replicate n Cycle) ≡ n = length-replicate n Cycle in omega arith
+
+unfoldable setup : ImagesAreStates → (spec : Spec) (run : Run) → IsToldRun spec run → Setup spec
+setup images spec run told = record {
+  calls = told.calls;
+  start = told.start;
+  events = replicate told.cycles Cycle;
+  is_state = images spec told.state.bytes told.start told.machine.stands.1 told.state.stands;
+  few = few_events told.cycles told.few;
+}
+
+pub text_tells : ImagesAreStates → TextTellsItsRun → TextTellsToldRun
+unfolding setup
+text_tells images law spec first second a b same =
+    a.run_is ∙ law spec (setup images spec first a) (setup images spec second b) (can_run spec first a)
+      (ap (state_text_of spec) (sym a.run_is) ∙ same ∙ ap (state_text_of spec) b.run_is) ∙ sym b.run_is
+
+pub beginning_tells : ImagesAreStates → BeginningTellsItsRun → BeginningTellsToldRun
+unfolding setup
+beginning_tells images law spec first second more other a b same =
+    let both = law spec (setup images spec first a) (setup images spec second b) more other (can_run spec first a)
+      (ap (λ r. state_text_of spec r ++ more) (sym a.run_is) ∙ same ∙ ap (λ r. state_text_of spec r ++ other) b.run_is) in
+    (a.run_is ∙ both.0 ∙ sym b.run_is, both.1)
