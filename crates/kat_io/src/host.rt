@@ -84,6 +84,7 @@ pub struct HostFiles<R> {
 }
 
 impl<R: rt::Files> HostFiles<R> {
+    /// The files of this runtime, with no read made yet.
     pub fn new(alloc: Global, rt: R) -> HostFiles<R>
         ensures faults { ⟦<HostFiles<R> as Files>⟧.faults result ≡ 0 }
         ensures overlong { ⟦<HostFiles<R> as Files>⟧.overlong result ≡ 0 }

@@ -15,6 +15,7 @@ pub enum ReadError {
     /// The file has more bytes than the limit; the value is how many were taken, which is the limit and one.
     #[error("the file is too long: {0} bytes were taken")]
     TooLong(u64),
+    /// Memory ran out.
     #[error("out of memory")]
     Memory,
 }

@@ -12,6 +12,7 @@ pub enum SinkError {
     /// The sink took no more; its count of faults rose.
     #[error("the sink takes no more")]
     Failed,
+    /// Memory ran out.
     #[error("out of memory")]
     Memory,
 }

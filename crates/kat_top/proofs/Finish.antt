@@ -12,7 +12,7 @@ use Rattle.kat_top.specs.declared.status.Status.TheVariants as status
 use Rattle.kat_top.specs.declared.refusal.Refusal.{Refusal}
 use Rattle.kat_top.specs.declared.refusal.Refusal.TheVariants.{Failed, Long, Tree, Form, Unbuilt, Memory}
 use Rattle.kat_top.specs.Answer.{Gave, status_of, run_answer}
-use Rattle.kat_top.specs.Files.{AddsReads, NotedRefusal, IfReadFailed, IfLong, CauseOf, HasCause}
+use Rattle.kat_top.specs.Files.{most_bytes, AddsReads, NotedRefusal, IfReadFailed, IfLong, CauseOf, HasCause}
 use Rattle.kat_io.specs.Counts.{Rose}
 use Rattle.kat_runner.specs.Runner.{text_owed, text_for_end}
 
@@ -64,10 +64,10 @@ reads_one Memory old new name more noted = ⊎_elim (λ same. (0, same ∙ sym (
 
 -- a file that was read, and then those behind it
 pub reads_more : (old mid new : List (Name × ℕ)) (name : Name) (more : List Name) →
-    mid ≡ old ++ (name, 4194304) ∷ [] → AddsReads more mid new → AddsReads (name ∷ more) old new
+    mid ≡ old ++ (name, most_bytes) ∷ [] → AddsReads more mid new → AddsReads (name ∷ more) old new
 reads_more old mid new name more read (n, e) =
-    let reads : List (Name × ℕ) = take n (map (λ (m : Name). (m, 4194304)) more) in
-    (suc n, e ∙ ap (λ l. l ++ reads) read ∙ append_snoc old (name, 4194304) reads)
+    let reads : List (Name × ℕ) = take n (map (λ (m : Name). (m, most_bytes)) more) in
+    (suc n, e ∙ ap (λ l. l ++ reads) read ∙ append_snoc old (name, most_bytes) reads)
 
 -- a refusal has the cause that the read had
 pub cause_of : (refusal : Refusal) (failed overlong : Type 0) → IfReadFailed refusal failed → IfLong refusal overlong → CauseOf refusal failed overlong

@@ -1,30 +1,19 @@
 -- The status that was given, and the answer.
-use Rattle.std.proofs.Common.{◌≡◌, ℕ, ◌≤◌, ◌<◌, ◌⊎◌, ⊎_elim, inl, inr, List, [], ◌∷◌, ◌++◌, length, Option, None, Some, Result, Ok, Err, refl, ap, sym, subst, ◌∙◌, arith}
+use Rattle.std.proofs.Common.{◌≡◌, ℕ, ◌⊎◌, ⊎_elim, inl, inr, List, length, Option, None, Some, Result, Ok, Err, refl, ap, sym, subst, ◌∙◌}
 use Rattle.std.proofs.Math.Seq.{take-length}
-use Rattle.std.proofs.lemmas.List.{append-nil}
-use Rattle.std.specs.Prelude.{IsSome}
 use Rattle.kat_io.specs.Contents.{with_bytes, Grew}
 use Rattle.kat_syntax.specs.declared.decl.Spec.{Spec}
 use Rattle.kat_syntax.specs.Tables.{Name}
 use Rattle.kat_syntax.specs.Machine.{MachineState}
-use Rattle.kat_syntax.specs.Describes.{Reads}
-use Rattle.kat_syntax.specs.Run.{Run as MachineRun, RunEnd, Ended, OutIn, FailedIn}
-use Rattle.kat_syntax.specs.Runnable.{IsFirstForm}
-use Rattle.kat_image.specs.Image.{IsImageOf}
+use Rattle.kat_syntax.specs.Run.{RunEnd, Ended, OutIn, FailedIn}
 use Rattle.kat_top.specs.declared.status.Status.{Status}
 use Rattle.kat_top.specs.declared.status.Status.TheVariants as status
 use Rattle.kat_top.specs.declared.refusal.Refusal.{Refusal}
 use Rattle.kat_top.specs.declared.refusal.Refusal.TheVariants.{Failed, Long, Tree, Form, Unbuilt, Memory}
 use Rattle.kat_top.specs.Words.{RunJob, Job, Run, Print}
-use Rattle.kat_top.specs.FileLaws.{FileLaws}
-use Rattle.kat_top.specs.Files.{Agrees, IsSpecOf, IsMachineOf, IsStartOf, CauseOf, HasCause, Noted, ReadsMade, files_of, AddsReads}
-use Rattle.kat_top.specs.Answer.{Answer, refusal_of, status_of, run_answer_of, print_answer, job_answer, answer_of, Gave, IsPlain, IsStartAsTold, IsAnswerFor, Answered, IfPlain, IfReadFault, IfTooLong, WrotePrefix}
-use Rattle.kat_top.specs.Complete.{IsOwedBy, AreTold}
-use Rattle.kat_top.specs.Causes.{StandsFor, StandsForNothing, IsTooLong, IsMachine, HasLongFile, HasNoForm, IsDone, DoneWith, DoneWhole, IsFromOutside, ComesExactly}
-use Rattle.kat_top.proofs.Finish.{reads_one, reads_more}
-use Rattle.kat_top.proofs.Outcomes.{IsOfText}
-use Rattle.kat_top.proofs.Owed.{IsUndecided, met}
-use Rattle.kat_top.proofs.OneOutcome.{same_spec, no_fault, no_misfit, one_reading, one_machine, one_start}
+use Rattle.kat_top.specs.Answer.{Answer, refusal_of, status_of, run_answer_of, print_answer, job_answer, answer_of, Gave, IsPlain, Answered, IfPlain, IfReadFault, IfTooLong, WrotePrefix}
+use Rattle.kat_top.specs.Causes.{IsFromOutside}
+use Rattle.kat_top.proofs.Owed.{IsUndecided}
 
 -- a status is this one, or comes of what failed outside
 abbrev pub IsOrOutside : Status → Status → Type 0

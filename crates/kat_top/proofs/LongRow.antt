@@ -1,32 +1,18 @@
 -- Where the status `TooLong` comes.
-use Rattle.std.proofs.Common.{◌≡◌, ℕ, ◌≤◌, ◌<◌, ◌⊎◌, ⊎_elim, inl, inr, List, [], ◌∷◌, ◌++◌, length, Option, None, Some, Result, Ok, Err, refl, ap, sym, subst, ◌∙◌, arith}
-use Rattle.std.proofs.Math.Seq.{take-length}
-use Rattle.std.proofs.lemmas.List.{append-nil}
+use Rattle.std.proofs.Common.{◌≡◌, ℕ, ◌≤◌, ◌⊎◌, inl, inr, List, length, Option, None, Some, Result, Ok, Err, refl, subst, arith}
 use Rattle.std.specs.Prelude.{IsSome}
-use Rattle.kat_io.specs.Contents.{with_bytes, Grew}
 use Rattle.kat_syntax.specs.declared.decl.Spec.{Spec}
 use Rattle.kat_syntax.specs.Tables.{Name}
 use Rattle.kat_syntax.specs.Machine.{MachineState}
-use Rattle.kat_syntax.specs.Describes.{Reads}
-use Rattle.kat_syntax.specs.Run.{Run as MachineRun, RunEnd, Ended, OutIn, FailedIn}
-use Rattle.kat_syntax.specs.Runnable.{IsFirstForm}
-use Rattle.kat_image.specs.Image.{IsImageOf}
-use Rattle.kat_top.specs.declared.status.Status.{Status}
 use Rattle.kat_top.specs.declared.status.Status.TheVariants as status
 use Rattle.kat_top.specs.declared.refusal.Refusal.{Refusal}
-use Rattle.kat_top.specs.declared.refusal.Refusal.TheVariants.{Failed, Long, Tree, Form, Unbuilt, Memory}
-use Rattle.kat_top.specs.Words.{RunJob, Job, Run, Print}
+use Rattle.kat_top.specs.Words.{RunJob}
 use Rattle.kat_top.specs.FileLaws.{FileLaws}
-use Rattle.kat_top.specs.Files.{Agrees, IsSpecOf, IsMachineOf, IsStartOf, CauseOf, HasCause, Noted, ReadsMade, files_of, AddsReads}
-use Rattle.kat_top.specs.Answer.{Answer, refusal_of, status_of, run_answer_of, print_answer, job_answer, answer_of, Gave, IsPlain, IsStartAsTold, IsAnswerFor, Answered, IfPlain, IfReadFault, IfTooLong, WrotePrefix}
-use Rattle.kat_top.specs.Complete.{IsOwedBy, AreTold}
-use Rattle.kat_top.specs.Causes.{StandsFor, StandsForNothing, IsTooLong, IsMachine, HasLongFile, HasNoForm, IsDone, DoneWith, DoneWhole, IsFromOutside, ComesExactly}
-use Rattle.kat_top.proofs.Finish.{reads_one, reads_more}
-use Rattle.kat_top.proofs.Outcomes.{IsOfText}
-use Rattle.kat_top.proofs.Owed.{IsUndecided, met}
-use Rattle.kat_top.proofs.OneOutcome.{same_spec, no_fault, no_misfit, one_reading, one_machine, one_start}
-use Rattle.kat_top.proofs.GivenStatus.{IsOrOutside, given_is, given_comes, plain_gave, gave_as, if_plain, IsDoneStatus, not_done, end_is_done, ran_status, not_usage, undecided_print, undecided_spec, undecided_start, done_is_plain, job_is_no_usage, print_is_no_usage, usage_only, if_read_fault, if_too_long}
-use Rattle.kat_top.proofs.RefusedFile.{Came, Outside, TooMany, OfText, CameOf, came_of, no_machine, no_spec, agreed, form_if_few, long_if_many}
+use Rattle.kat_top.specs.Files.{most_bytes, Agrees, IsSpecOf, IsMachineOf, IsStartOf}
+use Rattle.kat_top.specs.Answer.{refusal_of, print_answer, job_answer, IsStartAsTold}
+use Rattle.kat_top.specs.Causes.{StandsFor, IsTooLong, IsMachine, IsFromOutside}
+use Rattle.kat_top.proofs.GivenStatus.{IsOrOutside, ran_status}
+use Rattle.kat_top.proofs.RefusedFile.{Outside, TooMany, OfText, CameOf, came_of, no_machine, agreed, long_if_many}
 
 module _ (laws : FileLaws) where
   pub long_comes_print : (name : Name) (t : Option (List ℕ)) (spec : Result Spec Refusal) → IsTooLong t → Agrees IsSpecOf t spec → IsOrOutside status.TooLong (print_answer name spec).status
@@ -36,7 +22,7 @@ module _ (laws : FileLaws) where
       long_if_many IsSpecOf name long.bytes refusal long.many (came_of IsSpecOf name long.bytes refusal (agreed IsSpecOf t long.bytes (Err refusal) long.is_told agrees))
 
   -- a file that stands for a machine was taken, or something outside failed
-  pub machine_is_taken : (job : RunJob) (bytes : List ℕ) (refusal : Refusal) (spec : Spec) → length bytes ≤ 4194304 → IsMachine bytes spec → CameOf IsMachineOf job.spec bytes refusal → IsFromOutside (refusal_of job.spec refusal).status
+  pub machine_is_taken : (job : RunJob) (bytes : List ℕ) (refusal : Refusal) (spec : Spec) → length bytes ≤ most_bytes → IsMachine bytes spec → CameOf IsMachineOf job.spec bytes refusal → IsFromOutside (refusal_of job.spec refusal).status
   unfolding CameOf
   machine_is_taken job bytes refusal spec few machine (Outside outside) = outside
   machine_is_taken job bytes refusal spec few machine (TooMany is many) = absurd (omega arith)

@@ -1,38 +1,27 @@
 -- What comes of the bytes of a file is one thing.
-use Rattle.std.proofs.Common.{◌≡◌, ℕ, ◌≤◌, ◌<◌, ◌⊎◌, ⊎_elim, inl, inr, List, [], ◌∷◌, length, Option, None, Some, Result, Ok, Err, true, false, refl, ap, sym, subst, ◌∙◌, arith}
-use Rattle.std.proofs.Math.Seq.{take-nil}
-use Rattle.std.specs.Prelude.{IfSome, IsSome}
+use Rattle.std.proofs.Common.{◌≡◌, ℕ, List, [], ◌∷◌, Result, Ok, Err, true, refl, ap, sym, subst, ◌∙◌}
 use Rattle.std.specs.List.{AllByRecursion}
-use Rattle.kat_io.specs.Contents.{with_bytes, Grew}
 use Rattle.kat_tree.specs.declared.tree.Tree.{Tree as TextTree}
-use Rattle.kat_tree.specs.declared.error.TreeError.{TreeError}
 use Rattle.kat_tree.specs.Spelling.{Spells}
-use Rattle.kat_tree.specs.Faults.{IsFirstFault, Owes}
+use Rattle.kat_tree.specs.Faults.{IsFirstFault}
 use Rattle.kat_syntax.specs.declared.decl.DeclForm.{DeclForm}
 use Rattle.kat_syntax.specs.declared.decl.Spec.{Spec}
-use Rattle.kat_syntax.specs.Tables.{Name}
 use Rattle.kat_syntax.specs.Machine.{MachineState}
 use Rattle.kat_syntax.specs.Formed.{is_formed_decl}
 use Rattle.kat_syntax.specs.WellFormed.{IsDecl}
-use Rattle.kat_syntax.specs.Describes.{tree_of_spec, Describes, Reads}
+use Rattle.kat_syntax.specs.Describes.{Reads}
 use Rattle.kat_syntax.specs.Runnable.{IsFirstForm}
 use Rattle.kat_forms.specs.declared.sort.Sort.TheVariants as sort
 use Rattle.kat_forms.specs.declared.misfit.Misfit.{Misfit}
 use Rattle.kat_forms.specs.Fits.{fits, misfit_of}
 use Rattle.kat_forms.specs.Reading.{IsFirstMisfit}
-use Rattle.kat_image.specs.Image.{IsImageOf}
-use Rattle.kat_top.specs.declared.status.Status.{Status}
-use Rattle.kat_top.specs.declared.status.Status.TheVariants as status
 use Rattle.kat_top.specs.declared.refusal.TreeKind.{TreeKind}
 use Rattle.kat_top.specs.declared.refusal.TreeKind.TheVariants.{NotText, Unclosed, Stray, BadToken, Deep}
 use Rattle.kat_top.specs.declared.refusal.Refusal.{Refusal}
 use Rattle.kat_top.specs.declared.refusal.Refusal.TheVariants.{Failed, Long, Tree, Form, Unbuilt, Memory}
 use Rattle.kat_top.specs.Refusals.{refused_tree, fault_of}
-use Rattle.kat_top.specs.Words.{RunJob, Job, Run, Print}
 use Rattle.kat_top.specs.FileLaws.{FileLaws}
-use Rattle.kat_top.specs.Files.{Agrees, IsSpecOf, IsMachineOf, IsStartOf, HasCause}
-use Rattle.kat_top.specs.Answer.{Answer, refusal_of, print_answer, job_answer, answer_of, Gave, IsStartAsTold, IsAnswerFor, Answered, IfWriteFault}
-use Rattle.kat_top.specs.Complete.{ComesOf, IsOwedBy, IsStartOwed, IsOwed, IsAnswer, AreTold, IsGiven, IsComplete}
+use Rattle.kat_top.specs.Files.{IsSpecOf, IsMachineOf, IsStartOf}
 
 -- what comes of a file by its bytes alone
 abbrev pub IsDecided : {A : Type 0} → Result A Refusal → Type 0

@@ -1,5 +1,5 @@
 -- What came of the bytes of a file, and what is told of them.
-use Rattle.std.proofs.Common.{◌≡◌, ℕ, ◌≤◌, ◌<◌, ◌^◌, List, [], ◌∷◌, map, arith, length, Option, None, Some, Result, Ok, Err, subst, sym}
+use Rattle.std.proofs.Common.{◌≡◌, ℕ, ◌≤◌, ◌<◌, ◌^◌, List, [], ◌∷◌, map, arith, length, Option, None, Some, Result, Ok, Err, subst}
 use Rattle.std.specs.Prelude.{IfSome, sum}
 use Rattle.std.specs.List.{AllByRecursion}
 use Rattle.std.proofs.lemmas.List.Sums.{sum-map, sum_by-cons}
@@ -9,7 +9,7 @@ use Rattle.kat_syntax.specs.declared.decl.Spec.{Spec}
 use Rattle.kat_syntax.specs.Machine.{MachineState}
 use Rattle.kat_top.specs.declared.refusal.Refusal.{Refusal}
 use Rattle.kat_top.specs.declared.refusal.Refusal.TheVariants.{Failed, Long, Tree, Form, Unbuilt, Memory}
-use Rattle.kat_top.specs.Files.{Agrees, IsLoaded, IsSpecOf, IsMachineOf, IsStartOf}
+use Rattle.kat_top.specs.Files.{most_bytes, Agrees, IsLoaded, IsSpecOf, IsMachineOf, IsStartOf}
 
 -- a file that was read is not too long
 abbrev pub IsNotLong : {A : Type 0} → Result A Refusal → Type 0
@@ -18,7 +18,7 @@ IsNotLong outcome = Unit {0}
 
 -- what came of bytes that were read agrees with what is told
 pub agrees_with : {A : Type 0} (P : List ℕ → Result A Refusal → Type 0) (told : Option (List ℕ)) (bytes : List ℕ) (outcome : Result A Refusal) →
-    length bytes ≤ 4194304 → IfSome told (λ t. bytes ≡ t) → IsNotLong outcome → P bytes outcome → Agrees P told outcome
+    length bytes ≤ most_bytes → IfSome told (λ t. bytes ≡ t) → IsNotLong outcome → P bytes outcome → Agrees P told outcome
 agrees_with P told bytes (Err Failed) few same short is = tt
 agrees_with P told bytes (Err Memory) few same short is = tt
 agrees_with P told bytes (Err Long) few same short is = absurd short
@@ -26,10 +26,10 @@ agrees_with P None bytes (Ok a) few same short is = tt
 agrees_with P None bytes (Err (Tree kind offset)) few same short is = tt
 agrees_with P None bytes (Err (Form place wanted)) few same short is = tt
 agrees_with P None bytes (Err Unbuilt) few same short is = tt
-agrees_with P (Some t) bytes (Ok a) few same short is = subst (λ b. (length b ≤ 4194304) × P b (Ok a)) same (few, is)
-agrees_with P (Some t) bytes (Err (Tree kind offset)) few same short is = subst (λ b. (length b ≤ 4194304) × P b (Err (Tree kind offset))) same (few, is)
-agrees_with P (Some t) bytes (Err (Form place wanted)) few same short is = subst (λ b. (length b ≤ 4194304) × P b (Err (Form place wanted))) same (few, is)
-agrees_with P (Some t) bytes (Err Unbuilt) few same short is = subst (λ b. (length b ≤ 4194304) × P b (Err Unbuilt)) same (few, is)
+agrees_with P (Some t) bytes (Ok a) few same short is = subst (λ b. (length b ≤ most_bytes) × P b (Ok a)) same (few, is)
+agrees_with P (Some t) bytes (Err (Tree kind offset)) few same short is = subst (λ b. (length b ≤ most_bytes) × P b (Err (Tree kind offset))) same (few, is)
+agrees_with P (Some t) bytes (Err (Form place wanted)) few same short is = subst (λ b. (length b ≤ most_bytes) × P b (Err (Form place wanted))) same (few, is)
+agrees_with P (Some t) bytes (Err Unbuilt) few same short is = subst (λ b. (length b ≤ most_bytes) × P b (Err Unbuilt)) same (few, is)
 
 -- a file whose bytes were not had
 pub not_loaded : {A : Type 0} (P : List ℕ → Result A Refusal → Type 0) (told : Option (List ℕ)) (refusal : Refusal) → IsLoaded told refusal → Agrees P told (Err refusal)

@@ -1,36 +1,18 @@
 -- The answer that is owed is given, and is one.
-use Rattle.std.proofs.Common.{◌≡◌, ℕ, ◌≤◌, ◌<◌, ◌⊎◌, ⊎_elim, inl, inr, List, [], ◌∷◌, length, Option, None, Some, Result, Ok, Err, true, false, refl, ap, sym, subst, ◌∙◌, arith}
+use Rattle.std.proofs.Common.{◌≡◌, ℕ, ◌≤◌, ◌<◌, ◌⊎◌, ⊎_elim, inl, inr, List, length, Option, None, Some, Result, Ok, Err, refl, ap, sym, subst, ◌∙◌, arith}
 use Rattle.std.proofs.Math.Seq.{take-nil}
-use Rattle.std.specs.Prelude.{IfSome, IsSome}
-use Rattle.std.specs.List.{AllByRecursion}
-use Rattle.kat_io.specs.Contents.{with_bytes, Grew}
-use Rattle.kat_tree.specs.declared.tree.Tree.{Tree as TextTree}
-use Rattle.kat_tree.specs.declared.error.TreeError.{TreeError}
-use Rattle.kat_tree.specs.Spelling.{Spells}
-use Rattle.kat_tree.specs.Faults.{IsFirstFault, Owes}
-use Rattle.kat_syntax.specs.declared.decl.DeclForm.{DeclForm}
+use Rattle.std.specs.Prelude.{IsSome}
+use Rattle.kat_io.specs.Contents.{with_bytes}
 use Rattle.kat_syntax.specs.declared.decl.Spec.{Spec}
 use Rattle.kat_syntax.specs.Tables.{Name}
 use Rattle.kat_syntax.specs.Machine.{MachineState}
-use Rattle.kat_syntax.specs.Formed.{is_formed_decl}
-use Rattle.kat_syntax.specs.WellFormed.{IsDecl}
-use Rattle.kat_syntax.specs.Describes.{tree_of_spec, Describes, Reads}
-use Rattle.kat_syntax.specs.Runnable.{IsFirstForm}
-use Rattle.kat_forms.specs.declared.sort.Sort.TheVariants as sort
-use Rattle.kat_forms.specs.declared.misfit.Misfit.{Misfit}
-use Rattle.kat_forms.specs.Fits.{fits, misfit_of}
-use Rattle.kat_forms.specs.Reading.{IsFirstMisfit}
-use Rattle.kat_image.specs.Image.{IsImageOf}
 use Rattle.kat_top.specs.declared.status.Status.{Status}
 use Rattle.kat_top.specs.declared.status.Status.TheVariants as status
-use Rattle.kat_top.specs.declared.refusal.TreeKind.{TreeKind}
-use Rattle.kat_top.specs.declared.refusal.TreeKind.TheVariants.{NotText, Unclosed, Stray, BadToken, Deep}
 use Rattle.kat_top.specs.declared.refusal.Refusal.{Refusal}
 use Rattle.kat_top.specs.declared.refusal.Refusal.TheVariants.{Failed, Long, Tree, Form, Unbuilt, Memory}
-use Rattle.kat_top.specs.Refusals.{refused_tree, fault_of}
 use Rattle.kat_top.specs.Words.{RunJob, Job, Run, Print}
 use Rattle.kat_top.specs.FileLaws.{FileLaws}
-use Rattle.kat_top.specs.Files.{Agrees, IsSpecOf, IsMachineOf, IsStartOf, HasCause}
+use Rattle.kat_top.specs.Files.{most_bytes, Agrees, IsSpecOf, IsMachineOf, IsStartOf, HasCause}
 use Rattle.kat_top.specs.Answer.{Answer, refusal_of, print_answer, job_answer, answer_of, Gave, IsStartAsTold, IsAnswerFor, Answered, IfWriteFault}
 use Rattle.kat_top.specs.Complete.{ComesOf, IsOwedBy, IsStartOwed, IsOwed, IsAnswer, AreTold, IsGiven, IsComplete}
 use Rattle.kat_top.proofs.OneOutcome.{IsDecided, one_reading, one_machine, one_start}
@@ -47,7 +29,7 @@ AreOfOne {A} P = (bytes : List ℕ) (a b : Result A Refusal) → IsDecided a →
 
 -- what comes of bytes, where they are not too many
 few_come : {A : Type 0} (P : List ℕ → Result A Refusal → Type 0) (bytes : List ℕ) (given owed : Result A Refusal) →
-    AreOfOne P → IsDecided given → length bytes ≤ 4194304 → P bytes given → ComesOf P bytes owed → given ≡ owed
+    AreOfOne P → IsDecided given → length bytes ≤ most_bytes → P bytes given → ComesOf P bytes owed → given ≡ owed
 few_come P bytes given (Ok a) one is few came comes = one bytes given (Ok a) is tt came comes.1
 few_come P bytes given (Err Failed) one is few came comes = absurd comes
 few_come P bytes given (Err Memory) one is few came comes = absurd comes
@@ -58,7 +40,7 @@ few_come P bytes given (Err Unbuilt) one is few came comes = one bytes given (Er
 
 -- what comes of bytes that are too many
 many_come : {A : Type 0} (P : List ℕ → Result A Refusal → Type 0) (bytes : List ℕ) (owed : Result A Refusal) →
-    4194304 < length bytes → ComesOf P bytes owed → Err Long ≡ owed
+    most_bytes < length bytes → ComesOf P bytes owed → Err Long ≡ owed
 many_come P bytes (Err Long) many comes = refl
 many_come P bytes (Err Failed) many comes = absurd comes
 many_come P bytes (Err Memory) many comes = absurd comes

@@ -1,31 +1,20 @@
 -- How the answer to a file that was not taken came.
-use Rattle.std.proofs.Common.{◌≡◌, ℕ, ◌≤◌, ◌<◌, ◌⊎◌, ⊎_elim, inl, inr, List, [], ◌∷◌, ◌++◌, length, Option, None, Some, Result, Ok, Err, refl, ap, sym, subst, ◌∙◌, arith}
-use Rattle.std.proofs.Math.Seq.{take-length}
-use Rattle.std.proofs.lemmas.List.{append-nil}
-use Rattle.std.specs.Prelude.{IsSome}
-use Rattle.kat_io.specs.Contents.{with_bytes, Grew}
+use Rattle.std.proofs.Common.{◌≡◌, ℕ, ◌≤◌, ◌<◌, inl, inr, List, length, Option, Some, Result, Err, refl, subst, arith}
 use Rattle.kat_syntax.specs.declared.decl.Spec.{Spec}
 use Rattle.kat_syntax.specs.Tables.{Name}
-use Rattle.kat_syntax.specs.Machine.{MachineState}
 use Rattle.kat_syntax.specs.Describes.{Reads}
-use Rattle.kat_syntax.specs.Run.{Run as MachineRun, RunEnd, Ended, OutIn, FailedIn}
 use Rattle.kat_syntax.specs.Runnable.{IsFirstForm}
-use Rattle.kat_image.specs.Image.{IsImageOf}
 use Rattle.kat_top.specs.declared.status.Status.{Status}
 use Rattle.kat_top.specs.declared.status.Status.TheVariants as status
 use Rattle.kat_top.specs.declared.refusal.Refusal.{Refusal}
 use Rattle.kat_top.specs.declared.refusal.Refusal.TheVariants.{Failed, Long, Tree, Form, Unbuilt, Memory}
-use Rattle.kat_top.specs.Words.{RunJob, Job, Run, Print}
 use Rattle.kat_top.specs.FileLaws.{FileLaws}
-use Rattle.kat_top.specs.Files.{Agrees, IsSpecOf, IsMachineOf, IsStartOf, CauseOf, HasCause, Noted, ReadsMade, files_of, AddsReads}
-use Rattle.kat_top.specs.Answer.{Answer, refusal_of, status_of, run_answer_of, print_answer, job_answer, answer_of, Gave, IsPlain, IsStartAsTold, IsAnswerFor, Answered, IfPlain, IfReadFault, IfTooLong, WrotePrefix}
-use Rattle.kat_top.specs.Complete.{IsOwedBy, AreTold}
-use Rattle.kat_top.specs.Causes.{StandsFor, StandsForNothing, IsTooLong, IsMachine, HasLongFile, HasNoForm, IsDone, DoneWith, DoneWhole, IsFromOutside, ComesExactly}
-use Rattle.kat_top.proofs.Finish.{reads_one, reads_more}
+use Rattle.kat_top.specs.Files.{most_bytes, Agrees, IsSpecOf, IsMachineOf}
+use Rattle.kat_top.specs.Answer.{refusal_of}
+use Rattle.kat_top.specs.Causes.{IsMachine, IsFromOutside}
 use Rattle.kat_top.proofs.Outcomes.{IsOfText}
-use Rattle.kat_top.proofs.Owed.{IsUndecided, met}
-use Rattle.kat_top.proofs.OneOutcome.{same_spec, no_fault, no_misfit, one_reading, one_machine, one_start}
-use Rattle.kat_top.proofs.GivenStatus.{IsOrOutside, given_is, given_comes, plain_gave, gave_as, if_plain, IsDoneStatus, not_done, end_is_done, ran_status, not_usage, undecided_print, undecided_spec, undecided_start, done_is_plain, job_is_no_usage, print_is_no_usage, usage_only, if_read_fault, if_too_long}
+use Rattle.kat_top.proofs.OneOutcome.{same_spec, no_fault, no_misfit}
+use Rattle.kat_top.proofs.GivenStatus.{IsOrOutside}
 
 -- how the answer to a file that was not taken came: of what failed outside, of bytes that are too many, or of bytes that
 -- stand for nothing
@@ -37,7 +26,7 @@ pub data Came (given : Status) (many text : Type 0) : Type 0 where
 -- the same of the bytes that are told of a file
 unfoldable pub CameOf : {A : Type 0} → (List ℕ → Result A Refusal → Type 0) → Name → List ℕ → Refusal → Type 0
 CameOf {A} P name bytes refusal =
-    Came (refusal_of name refusal).status (4194304 < length bytes) ((length bytes ≤ 4194304) × P bytes (Err refusal) × IsOfText refusal)
+    Came (refusal_of name refusal).status (most_bytes < length bytes) ((length bytes ≤ most_bytes) × P bytes (Err refusal) × IsOfText refusal)
 
 pub came_of : {A : Type 0} (P : List ℕ → Result A Refusal → Type 0) (name : Name) (bytes : List ℕ) (refusal : Refusal) →
     Agrees P (Some bytes) (Err refusal) → CameOf P name bytes refusal
@@ -75,7 +64,7 @@ agreed P t bytes outcome is agrees = subst (λ u. Agrees P u outcome) is agrees
 
 -- a file of few bytes that was not taken was refused by its text, or something outside failed
 pub form_if_few : {A : Type 0} (P : List ℕ → Result A Refusal → Type 0) (name : Name) (bytes : List ℕ) (refusal : Refusal) →
-    length bytes ≤ 4194304 → CameOf P name bytes refusal → IsOrOutside status.Form (refusal_of name refusal).status
+    length bytes ≤ most_bytes → CameOf P name bytes refusal → IsOrOutside status.Form (refusal_of name refusal).status
 unfolding CameOf
 form_if_few P name bytes refusal few (Outside outside) = inr outside
 form_if_few P name bytes refusal few (TooMany is many) = absurd (omega arith)
@@ -83,7 +72,7 @@ form_if_few P name bytes refusal few (OfText is text) = inl is
 
 -- and one of many bytes because it is too long
 pub long_if_many : {A : Type 0} (P : List ℕ → Result A Refusal → Type 0) (name : Name) (bytes : List ℕ) (refusal : Refusal) →
-    4194304 < length bytes → CameOf P name bytes refusal → IsOrOutside status.TooLong (refusal_of name refusal).status
+    most_bytes < length bytes → CameOf P name bytes refusal → IsOrOutside status.TooLong (refusal_of name refusal).status
 unfolding CameOf
 long_if_many P name bytes refusal many (Outside outside) = inr outside
 long_if_many P name bytes refusal many (TooMany is more) = inl is

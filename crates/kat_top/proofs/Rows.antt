@@ -1,31 +1,21 @@
 -- Where each status comes, from the answer to what came of the files.
-use Rattle.std.proofs.Common.{◌≡◌, ℕ, ◌≤◌, ◌<◌, ◌⊎◌, ⊎_elim, inl, inr, List, [], ◌∷◌, ◌++◌, length, Option, None, Some, Result, Ok, Err, refl, ap, sym, subst, ◌∙◌, arith}
-use Rattle.std.proofs.Math.Seq.{take-length}
+use Rattle.std.proofs.Common.{◌≡◌, ℕ, inl, List, [], ◌∷◌, ◌++◌, Option, None, Some, Result, Ok, Err, refl, ap, sym, subst, ◌∙◌}
 use Rattle.std.proofs.lemmas.List.{append-nil}
-use Rattle.std.specs.Prelude.{IsSome}
-use Rattle.kat_io.specs.Contents.{with_bytes, Grew}
 use Rattle.kat_syntax.specs.declared.decl.Spec.{Spec}
 use Rattle.kat_syntax.specs.Tables.{Name}
 use Rattle.kat_syntax.specs.Machine.{MachineState}
-use Rattle.kat_syntax.specs.Describes.{Reads}
-use Rattle.kat_syntax.specs.Run.{Run as MachineRun, RunEnd, Ended, OutIn, FailedIn}
-use Rattle.kat_syntax.specs.Runnable.{IsFirstForm}
-use Rattle.kat_image.specs.Image.{IsImageOf}
 use Rattle.kat_top.specs.declared.status.Status.{Status}
 use Rattle.kat_top.specs.declared.status.Status.TheVariants as status
 use Rattle.kat_top.specs.declared.refusal.Refusal.{Refusal}
 use Rattle.kat_top.specs.declared.refusal.Refusal.TheVariants.{Failed, Long, Tree, Form, Unbuilt, Memory}
-use Rattle.kat_top.specs.Words.{RunJob, Job, Run, Print}
+use Rattle.kat_top.specs.Words.{Job, Run, Print}
 use Rattle.kat_top.specs.FileLaws.{FileLaws}
-use Rattle.kat_top.specs.Files.{Agrees, IsSpecOf, IsMachineOf, IsStartOf, CauseOf, HasCause, Noted, ReadsMade, files_of, AddsReads}
-use Rattle.kat_top.specs.Answer.{Answer, refusal_of, status_of, run_answer_of, print_answer, job_answer, answer_of, Gave, IsPlain, IsStartAsTold, IsAnswerFor, Answered, IfPlain, IfReadFault, IfTooLong, WrotePrefix}
-use Rattle.kat_top.specs.Complete.{IsOwedBy, AreTold}
-use Rattle.kat_top.specs.Causes.{StandsFor, StandsForNothing, IsTooLong, IsMachine, HasLongFile, HasNoForm, IsDone, DoneWith, DoneWhole, IsFromOutside, ComesExactly}
+use Rattle.kat_top.specs.Files.{most_bytes, CauseOf, HasCause, Noted, ReadsMade, files_of, AddsReads}
+use Rattle.kat_top.specs.Answer.{Answer, refusal_of, print_answer, job_answer, answer_of, Gave, Answered, IfReadFault, IfTooLong}
+use Rattle.kat_top.specs.Complete.{AreTold}
+use Rattle.kat_top.specs.Causes.{HasLongFile, HasNoForm, DoneWith, DoneWhole, ComesExactly}
 use Rattle.kat_top.proofs.Finish.{reads_one, reads_more}
-use Rattle.kat_top.proofs.Outcomes.{IsOfText}
-use Rattle.kat_top.proofs.Owed.{IsUndecided, met}
-use Rattle.kat_top.proofs.OneOutcome.{same_spec, no_fault, no_misfit, one_reading, one_machine, one_start}
-use Rattle.kat_top.proofs.GivenStatus.{IsOrOutside, given_is, given_comes, plain_gave, gave_as, if_plain, IsDoneStatus, not_done, end_is_done, ran_status, not_usage, undecided_print, undecided_spec, undecided_start, done_is_plain, job_is_no_usage, print_is_no_usage, usage_only, if_read_fault, if_too_long}
+use Rattle.kat_top.proofs.GivenStatus.{IsOrOutside, given_comes, gave_as, IsDoneStatus, ran_status, done_is_plain, usage_only, if_read_fault, if_too_long}
 use Rattle.kat_top.proofs.FormRow.{form_comes_print, form_comes_run, form_only_print, form_only_run}
 use Rattle.kat_top.proofs.LongRow.{long_comes_print, long_comes_run, long_only_print, long_only_run}
 use Rattle.kat_top.proofs.DoneRow.{done_comes_print, done_comes_run, done_only_print, done_only_run}
@@ -40,7 +30,7 @@ reads_made None spec start old new made = (0, made ∙ sym (append-nil old))
 reads_made (Some (Print name)) spec start old new made = noted_one spec old new name [] made
 reads_made (Some (Run job)) (Err refusal) start old new made = reads_one refusal old new job.spec (job.image ∷ []) made
 reads_made (Some (Run job)) (Ok spec) start old new made =
-    reads_more old (old ++ (job.spec, 4194304) ∷ []) new job.spec (job.image ∷ []) refl (noted_one start (old ++ (job.spec, 4194304) ∷ []) new job.image [] made)
+    reads_more old (old ++ (job.spec, most_bytes) ∷ []) new job.spec (job.image ∷ []) refl (noted_one start (old ++ (job.spec, most_bytes) ∷ []) new job.image [] made)
 
 -- The rows of the statuses, for the program's one call.
 

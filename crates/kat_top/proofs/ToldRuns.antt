@@ -1,10 +1,10 @@
 -- The runs of machines and images that files tell are runs of their machines.
-use Rattle.std.proofs.Common.{◌≡◌, ℕ, ◌<◌, ◌≤◌, ◌^◌, List, ◌++◌, length, replicate, sym, ap, subst, ◌∙◌, arith}
+use Rattle.std.proofs.Common.{◌≡◌, ℕ, ◌<◌, ◌≤◌, ◌^◌, ◌++◌, length, replicate, sym, ap, ◌∙◌, arith}
 use Rattle.std.proofs.lemmas.List.{length-replicate}
 use Rattle.kat_syntax.specs.declared.decl.Spec.{Spec}
-use Rattle.kat_syntax.specs.Run.{Event, Cycle, Run}
+use Rattle.kat_syntax.specs.Run.{Cycle, Run}
 use Rattle.kat_syntax.specs.StateText.{state_text_of}
-use Rattle.kat_syntax.specs.Soundness.{CanRun, Setup, run_in, TextTellsItsRun, BeginningTellsItsRun}
+use Rattle.kat_syntax.specs.Soundness.{CanRun, Setup, TextTellsItsRun, BeginningTellsItsRun}
 use Rattle.kat_image.specs.States.{ImagesAreStates}
 use Rattle.kat_top.specs.Told.{IsToldRun, TextTellsToldRun, BeginningTellsToldRun}
 
@@ -27,11 +27,11 @@ pub text_tells : ImagesAreStates → TextTellsItsRun → TextTellsToldRun
 unfolding setup
 text_tells images law spec first second a b same =
     a.run_is ∙ law spec (setup images spec first a) (setup images spec second b) (can_run spec first a)
-      (ap (state_text_of spec) (sym a.run_is) ∙ same ∙ ap (state_text_of spec) b.run_is) ∙ sym b.run_is
+    (ap (state_text_of spec) (sym a.run_is) ∙ same ∙ ap (state_text_of spec) b.run_is) ∙ sym b.run_is
 
 pub beginning_tells : ImagesAreStates → BeginningTellsItsRun → BeginningTellsToldRun
 unfolding setup
 beginning_tells images law spec first second more other a b same =
     let both = law spec (setup images spec first a) (setup images spec second b) more other (can_run spec first a)
-      (ap (λ r. state_text_of spec r ++ more) (sym a.run_is) ∙ same ∙ ap (λ r. state_text_of spec r ++ other) b.run_is) in
+    (ap (λ r. state_text_of spec r ++ more) (sym a.run_is) ∙ same ∙ ap (λ r. state_text_of spec r ++ other) b.run_is) in
     (a.run_is ∙ both.0 ∙ sym b.run_is, both.1)

@@ -13,17 +13,13 @@ use Rattle.kat_syntax.specs.Describes.{canonical_text}
 use Rattle.kat_top.specs.declared.refusal.Refusal.{Refusal}
 use Rattle.kat_top.specs.declared.refusal.Refusal.TheVariants.{Failed, Long, Tree, Form, Unbuilt, Memory}
 use Rattle.kat_top.specs.Refusals.{tree_line, form_line}
-use Rattle.kat_top.specs.Files.{Agrees, IsSpecOf, IsMachineOf, IsStartOf, HasCause, Noted, ReadsMade}
+use Rattle.kat_top.specs.Files.{most_bytes, Agrees, IsSpecOf, IsMachineOf, IsStartOf, HasCause, Noted, ReadsMade}
 use Rattle.kat_top.specs.Words.{RunJob, Job, Run as RunOf, Print}
 
 -- what a call owes
 pub record Answer : Type 0 where
   pub status : Status
   pub text : List ℕ
-
--- a file has at most this many bytes
-abbrev pub most_bytes : ℕ
-most_bytes = 4194304
 
 -- where a file was not taken
 abbrev pub refusal_of : Name → Refusal → Answer
@@ -127,15 +123,17 @@ abbrev pub WrotePrefix : Option Job → (Name → Option (List ℕ)) → (failed
 WrotePrefix job told failed overlong asked noted given old new =
     (answer : Answer) × IsAnswerFor job told failed overlong asked noted answer × Grew old new answer.text × IfPlain given (new ≡ with_bytes old answer.text)
 
--- facts for one status
+-- a fact for the status of a write that failed
 abbrev pub IfWriteFault : Status → Type 0 → Type 0
 IfWriteFault status.WriteFault P = P
 IfWriteFault _ P = Unit {0}
 
+-- a fact for the status of a read that failed
 abbrev pub IfReadFault : Status → Type 0 → Type 0
 IfReadFault status.ReadFault P = P
 IfReadFault _ P = Unit {0}
 
+-- a fact for the status of a file that is too long
 abbrev pub IfTooLong : Status → Type 0 → Type 0
 IfTooLong status.TooLong P = P
 IfTooLong _ P = Unit {0}

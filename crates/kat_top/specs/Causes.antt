@@ -1,6 +1,6 @@
 -- Where each status comes, by what the bytes of the files stand for.
 use Rattle.std.specs.Prelude.{◌≡◌, ◌≤◌, ◌<◌, ◌⊎◌, ℕ, List, length, Option, Some, None, Ok}
-use Rattle.kat_io.specs.Contents.{with_bytes, Grew}
+use Rattle.kat_io.specs.Contents.{with_bytes}
 use Rattle.kat_syntax.specs.declared.decl.Spec.{Spec}
 use Rattle.kat_syntax.specs.Tables.{Name}
 use Rattle.kat_syntax.specs.Machine.{MachineState}
@@ -10,6 +10,7 @@ use Rattle.kat_image.specs.Image.{IsImageOf}
 use Rattle.kat_top.specs.declared.status.Status.{Status}
 use Rattle.kat_top.specs.declared.status.Status.TheVariants as status
 use Rattle.kat_top.specs.Words.{Job, Run, Print}
+use Rattle.kat_top.specs.Files.{most_bytes}
 use Rattle.kat_top.specs.Answer.{Answer, run_answer_of, print_answer}
 use Rattle.kat_top.specs.Complete.{AreTold}
 
@@ -17,21 +18,21 @@ use Rattle.kat_top.specs.Complete.{AreTold}
 pub record StandsFor {A : Type 0} (Stands : List ℕ → A → Type 0) (told : Option (List ℕ)) (it : A) : Type 0 where
   pub bytes : List ℕ
   pub is_told : told ≡ Some bytes
-  pub few : length bytes ≤ 4194304
+  pub few : length bytes ≤ most_bytes
   pub stands : Stands bytes it
 
 -- the bytes of a file are told, they are at most as many as are read, and they stand for nothing
 pub record StandsForNothing {A : Type 0} (Stands : List ℕ → A → Type 0) (told : Option (List ℕ)) : Type 0 where
   pub bytes : List ℕ
   pub is_told : told ≡ Some bytes
-  pub few : length bytes ≤ 4194304
+  pub few : length bytes ≤ most_bytes
   pub nothing : (it : A) → Stands bytes it → ⊥
 
 -- the bytes of a file are told, and they are more than are read
 pub record IsTooLong (told : Option (List ℕ)) : Type 0 where
   pub bytes : List ℕ
   pub is_told : told ≡ Some bytes
-  pub many : 4194304 < length bytes
+  pub many : most_bytes < length bytes
 
 -- bytes stand for a machine: for a specification that can be run
 abbrev pub IsMachine : List ℕ → Spec → Type 0

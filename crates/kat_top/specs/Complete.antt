@@ -10,15 +10,15 @@ use Rattle.kat_top.specs.declared.status.Status.TheVariants as status
 use Rattle.kat_top.specs.declared.refusal.Refusal.{Refusal}
 use Rattle.kat_top.specs.declared.refusal.Refusal.TheVariants.{Failed, Long, Memory}
 use Rattle.kat_top.specs.Words.{Job, Run, Print}
-use Rattle.kat_top.specs.Files.{IsSpecOf, IsMachineOf, IsStartOf, files_of}
+use Rattle.kat_top.specs.Files.{most_bytes, IsSpecOf, IsMachineOf, IsStartOf, files_of}
 use Rattle.kat_top.specs.Answer.{Answer, answer_of, Gave}
 
 -- what comes of the bytes of a file by themselves: they are more than are read, or this is so of what they stand for
 abbrev pub ComesOf : {A : Type 0} → (List ℕ → Result A Refusal → Type 0) → List ℕ → Result A Refusal → Type 0
 ComesOf P bytes (Err Failed) = ⊥
 ComesOf P bytes (Err Memory) = ⊥
-ComesOf P bytes (Err Long) = 4194304 < length bytes
-ComesOf P bytes outcome = (length bytes ≤ 4194304) × P bytes outcome
+ComesOf P bytes (Err Long) = most_bytes < length bytes
+ComesOf P bytes outcome = (length bytes ≤ most_bytes) × P bytes outcome
 
 -- the bytes of a file are told, and this is what comes of them
 pub record IsOwedBy {A : Type 0} (P : List ℕ → Result A Refusal → Type 0) (told : Option (List ℕ)) (outcome : Result A Refusal) : Type 0 where

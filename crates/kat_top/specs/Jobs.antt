@@ -7,9 +7,11 @@ use Rattle.kat_top.specs.declared.words.Job.{Job as CodeJob}
 use Rattle.kat_top.specs.declared.words.Job.TheVariants as code
 use Rattle.kat_top.specs.Words.{RunJob, Job, Run, Print, job_of}
 
+-- a run that is asked for, its names being their bytes
 abbrev pub seen_run : CodeRun → RunJob
 seen_run job = record { spec = job.spec.now; image = job.image.now; cycles = job.cycles; calls = job.calls }
 
+-- a job, its names being their bytes
 abbrev pub seen_job : CodeJob → Job
 seen_job (code.Run job) = Run (seen_run job)
 seen_job (code.Print spec) = Print spec.now

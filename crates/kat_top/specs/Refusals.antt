@@ -13,6 +13,7 @@ use Rattle.kat_top.specs.declared.refusal.TreeKind.TheVariants.{NotText, Unclose
 use Rattle.kat_top.specs.declared.refusal.Refusal.{Refusal}
 use Rattle.kat_top.specs.declared.refusal.Refusal.TheVariants.{Tree, Form, Memory}
 
+-- why a text that is no tree was not taken
 abbrev pub refused_tree : TreeError → Refusal
 refused_tree (fault.NotText at) = Tree NotText at
 refused_tree (fault.Unclosed at) = Tree Unclosed at
@@ -21,6 +22,7 @@ refused_tree (fault.BadToken at) = Tree BadToken at
 refused_tree (fault.Deep at) = Tree Deep at
 refused_tree fault.Memory = Memory
 
+-- why a tree that is no specification was not taken
 abbrev pub refused_form : FormError → Refusal
 refused_form (form.Wanted place wanted) = Form place wanted
 refused_form form.Memory = Memory
@@ -33,6 +35,7 @@ fault_of Stray at = fault.Stray at
 fault_of BadToken at = fault.BadToken at
 fault_of Deep at = fault.Deep at
 
+-- the word KIND of a fault line
 abbrev pub word_of_kind : TreeKind → List ℕ
 word_of_kind NotText = codes "text"
 word_of_kind Unclosed = codes "unclosed"
@@ -40,6 +43,7 @@ word_of_kind Stray = codes "stray"
 word_of_kind BadToken = codes "token"
 word_of_kind Deep = codes "deep"
 
+-- the word WANTED of a fault line
 abbrev pub word_of_wanted : Wanted → List ℕ
 word_of_wanted wanted.Spec = codes "spec"
 word_of_wanted wanted.Version = codes "version"

@@ -3,6 +3,7 @@ use Rattle.std.specs.Prelude.{ℕ}
 use Rattle.kat_top.specs.declared.status.Status.{Status}
 use Rattle.kat_top.specs.declared.status.Status.TheVariants as status
 
+-- the number of a status, in the order in which they are declared
 abbrev pub number_of_status : Status → ℕ
 number_of_status status.Ok = 0
 number_of_status status.Refused = 1

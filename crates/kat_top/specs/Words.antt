@@ -15,6 +15,7 @@ pub data Job : Type 0 where
   Run : (job : RunJob) → Job
   Print : (spec : Name) → Job
 
+-- whether a byte is an ASCII digit
 abbrev pub is_digit : ℕ → Bool
 is_digit byte = nat_le 48 byte && nat_le byte 57
 
@@ -37,6 +38,7 @@ abbrev pub is_reserved : Name → Bool
 is_reserved [] = false
 is_reserved (byte ∷ rest) = byte == 64
 
+-- the run of these files with its numbers, where both are there
 abbrev pub with_numbers : Name → Name → Option ℕ → Option ℕ → Option Job
 with_numbers spec image (Some cycles) (Some calls) = Some (Run (record { spec = spec; image = image; cycles = cycles; calls = calls }))
 with_numbers spec image _ _ = None

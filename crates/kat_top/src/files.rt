@@ -2,7 +2,7 @@
 
 ghost use Rattle.std.specs.Prelude.{◌≡◌, ◌≤◌, ◌<◌, length, IfOk, IfErr, IfSome};
 ghost use Rattle.kat_io.specs.Counts.{Rose};
-ghost use Rattle.kat_top.specs.Files.{Agrees, IsSpecOf, IsMachineOf, IsStartOf, IsLoaded, IfReadFailed, IfLong, Noted};
+ghost use Rattle.kat_top.specs.Files.{most_bytes, Agrees, IsSpecOf, IsMachineOf, IsStartOf, IsLoaded, IfReadFailed, IfLong, Noted};
 
 use crate::refusal::Refusal;
 use kat_forms::read_spec;
@@ -23,7 +23,7 @@ fn load<F: Files>(alloc: Global, files: &mut F, name: &str) -> Result<Vec<u8>, R
     ensures faults { F.faults files.old ≤ F.faults files.new }
     ensures overlong { F.overlong files.old ≤ F.overlong files.new }
     ensures reads { Noted result (F.reads files.old) (F.reads files.new) name.now }
-    ensures ok { IfOk result (λ bytes. (length bytes.items ≤ 4194304) × IfSome (F.told files.old name.now) (λ told. bytes.items ≡ told)) }
+    ensures ok { IfOk result (λ bytes. (length bytes.items ≤ most_bytes) × IfSome (F.told files.old name.now) (λ told. bytes.items ≡ told)) }
     ensures err { IfErr result (λ refusal. IsLoaded (F.told files.old name.now) refusal) }
     ensures failed { IfErr result (λ e. IfReadFailed e (Rose (F.faults files.old) (F.faults files.new))) }
     ensures long { IfErr result (λ e. IfLong e (Rose (F.overlong files.old) (F.overlong files.new))) }
@@ -39,7 +39,7 @@ fn load<F: Files>(alloc: Global, files: &mut F, name: &str) -> Result<Vec<u8>, R
 
 // The specification that a text stands for.
 fn spec_of(alloc: Global, text: &[u8]) -> Result<Spec, Refusal>
-    requires { length text.now ≤ 4194304 }
+    requires { length text.now ≤ most_bytes }
     ensures { IsSpecOf text.now result }
 {
     match read_tree(alloc, text) {
@@ -58,7 +58,7 @@ fn spec_of(alloc: Global, text: &[u8]) -> Result<Spec, Refusal>
 
 // The machine that a text stands for.
 fn machine_of(alloc: Global, text: &[u8]) -> Result<Checked, Refusal>
-    requires { length text.now ≤ 4194304 }
+    requires { length text.now ≤ most_bytes }
     ensures { IsMachineOf text.now result }
 {
     match spec_of(alloc, text) {

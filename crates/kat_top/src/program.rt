@@ -98,7 +98,7 @@ fn print_file<F: Files, K: Sink>(alloc: Global, name: &str, files: &mut F, out: 
     ensures sink_faults { K.faults out.old ≤ K.faults out.new }
 {
     match load_spec(alloc, files, name) {
-        Ok(spec) => say_canonical(alloc, out, name, &spec),
+        Ok(spec) => say_canonical(alloc, out, &spec),
         Err(refusal) => refuse(alloc, out, name, refusal),
     }
 }

@@ -35,6 +35,7 @@ pub enum Refusal {
     Form { place: u64, wanted: Wanted },
     /// It stands for nothing that can be run yet.
     Unbuilt,
+    /// Memory ran out.
     Memory,
 }
 

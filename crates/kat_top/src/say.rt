@@ -4,8 +4,9 @@ ghost use Rattle.std.specs.Prelude.{◌≡◌, ◌≤◌, ◌++◌, ℕ, List, I
 ghost use Rattle.std.specs.Fmt.{decimal};
 ghost use Rattle.kat_io.specs.Counts.{Rose};
 ghost use Rattle.kat_syntax.specs.Run.{OutIn, FailedIn};
+ghost use Rattle.kat_syntax.specs.Describes.{canonical_text};
 ghost use Rattle.kat_syntax.specs.StateText.{newline, end_piece};
-ghost use Rattle.kat_top.specs.Answer.{Gave, IfWriteFault, IsPlain, refusal_of, print_answer};
+ghost use Rattle.kat_top.specs.Answer.{Gave, IfWriteFault, IsPlain, refusal_of};
 ghost use Rattle.kat_top.specs.Refusals.{word_of_kind, word_of_wanted, tree_line, form_line};
 ghost use Rattle.kat_top.specs.declared.status.Status.TheVariants as status;
 
@@ -183,9 +184,9 @@ pub fn say_failed<K: Sink>(alloc: Global, out: &mut K, cycle: u64, site: Place) 
 }
 
 /// Writes the canonical text of a specification.
-pub fn say_canonical<K: Sink>(alloc: Global, out: &mut K, name: &str, spec: &Spec) -> Status
+pub fn say_canonical<K: Sink>(alloc: Global, out: &mut K, spec: &Spec) -> Status
     ensures faults { K.faults out.old ≤ K.faults out.new }
-    ensures gave { Gave result (K.contents out.old) (K.contents out.new) (print_answer name.now (Ok spec.now)) }
+    ensures gave { Gave result (K.contents out.old) (K.contents out.new) (record { status = status.Ok; text = canonical_text spec.now }) }
     ensures write { IfWriteFault result (Rose (K.faults out.old) (K.faults out.new)) }
 {
     match print_spec(alloc, spec) {

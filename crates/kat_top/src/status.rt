@@ -18,7 +18,7 @@ pub enum Status {
     WriteFault,
     /// A file has more bytes than are read.
     TooLong,
-    /// A text stands for nothing that is built.
+    /// A text stands for no specification, or for none that can be run yet, or for no image of its machine.
     Form,
     /// A specification is not typed.
     IllTyped,
@@ -32,6 +32,7 @@ pub enum Status {
     Failed,
     /// A device gave a write that is refused.
     BadPoke,
+    /// Memory ran out; nothing more was written.
     Memory,
 }
 

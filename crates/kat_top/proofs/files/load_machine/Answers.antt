@@ -1,4 +1,4 @@
-use Rattle.std.proofs.Common.{◌≡◌, ◌≤◌, List, ℕ, length, subst, sym}
+use Rattle.std.proofs.Common.{subst}
 use Rattle.kat_top.specs.Files.{IsMachineOf}
 use Rattle.kat_top.proofs.Outcomes.{agrees_with, not_loaded, machine_not_long}
 use Rattle.kat_top.proofs.files.load_machine.Goals as goal

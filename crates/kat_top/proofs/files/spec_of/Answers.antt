@@ -1,4 +1,4 @@
-use Rattle.std.proofs.Common.{◌≡◌, ◌+◌, ◌<◌, ap, sym, arith}
+use Rattle.std.proofs.Common.{ap, arith}
 use Rattle.kat_tree.specs.Preorder.{count_of}
 use Rattle.kat_top.proofs.Outcomes.{small_parts}
 use Rattle.kat_top.proofs.files.spec_of.Goals as goal

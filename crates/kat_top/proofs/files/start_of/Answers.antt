@@ -1,4 +1,3 @@
-use Rattle.std.proofs.Common.{◌≡◌}
 use Rattle.kat_top.proofs.files.start_of.Goals as goal
 
 pub returns-in-Err-Line : goal.returns-in-Err-Line
