@@ -18,3 +18,4 @@ pub mod StmCount
 pub mod AssertionCount
 pub mod DeclCount
 pub mod Writable
+pub mod Reading

@@ -30,4 +30,4 @@ pub use law::{text_tells_its_end, text_tells_states};
 pub use place::Place;
 pub use stm::{CaseArm, MatchArm, Stm};
 pub use wanted::Wanted;
-pub use written::{one_form, places_are_of_the_tree, specifications_can_be_written};
+pub use written::{one_form, one_reading, places_are_of_the_tree, specifications_can_be_written};
