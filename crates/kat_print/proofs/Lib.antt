@@ -5,4 +5,3 @@ pub mod ExprText
 pub mod StmText
 pub mod AssertionText
 pub mod DeclText
-pub mod Reading
