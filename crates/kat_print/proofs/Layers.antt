@@ -3,9 +3,9 @@ use Rattle.std.proofs.Common.{◌≡◌, ℕ, List, [], ◌∷◌, ap, ◌∙◌
 use Rattle.std.specs.Prelude.{codes}
 use Rattle.std.specs.Fmt.{decimal}
 use Rattle.kat_syntax.specs.declared.expr.Expr.{Expr}
-use Rattle.kat_syntax.specs.declared.expr.Expr.TheOpen.{Expr-F, BeforeCell, Get}
+use Rattle.kat_syntax.specs.declared.expr.Expr.TheOpen.{Expr-F, BeforeCell}
 use Rattle.kat_syntax.specs.declared.expr.Expr.TheVariants as expr
-use Rattle.kat_syntax.specs.declared.expr.Expr.TheViews.{out-Expr, outs-BeforeCell, outs-Get}
+use Rattle.kat_syntax.specs.declared.expr.Expr.TheViews.{out-Expr, outs-BeforeCell}
 use Rattle.kat_syntax.specs.declared.expr.Expr.TheFolds.{map-Expr, fold_out-Expr}
 use Rattle.kat_print.specs.Texts.{listed, expr_text, text_of_expr}
 
@@ -14,6 +14,3 @@ text_at e y is = fold_out-Expr (List ℕ) expr_text e ∙ ap (λ z. expr_text (m
 
 pub text-BeforeCell : (e : Expr) (i : ℕ) → e ≡ expr.BeforeCell i → text_of_expr e ≡ listed (codes "before_cell") (decimal i ∷ [])
 text-BeforeCell e i is = text_at e (BeforeCell i) (ap out-Expr is ∙ outs-BeforeCell i)
-
-pub text-Get : (e : Expr) (r f : List ℕ) (value : Expr) → e ≡ expr.Get r f value → text_of_expr e ≡ listed (codes "get") (r ∷ f ∷ text_of_expr value ∷ [])
-text-Get e r f value is = text_at e (Get r f value) (ap out-Expr is ∙ outs-Get r f value)

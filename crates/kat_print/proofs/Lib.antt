@@ -3,6 +3,6 @@ pub mod Spaces
 pub mod Forms
 pub mod ExprText
 pub mod StmText
+pub mod StmTrees
 pub mod AssertionText
 pub mod DeclText
-pub mod Reading

@@ -10,6 +10,7 @@ use Rattle.kat_syntax.specs.declared.expr.Expr.TheFolds.{fold-Expr}
 use Rattle.kat_syntax.specs.declared.stm.Stm.{Stm}
 use Rattle.kat_syntax.specs.declared.stm.CaseArm.{CaseArm}
 use Rattle.kat_syntax.specs.declared.stm.MatchArm.{MatchArm}
+use Rattle.kat_syntax.specs.declared.stm.Stm.TheShapes.{former-Stm-Case-1-at-2 as case_arm, former-Stm-Match-1-at-3 as match_arm}
 use Rattle.kat_syntax.specs.declared.stm.Stm.TheOpen as s
 use Rattle.kat_syntax.specs.declared.stm.Stm.TheFolds.{fold-Stm}
 use Rattle.kat_syntax.specs.declared.assertion.Assertion.{Assertion}
@@ -112,6 +113,14 @@ stm_text (s.Lemma l args) = listed (codes "lemma") (l ∷ map text_of_expr args)
 
 abbrev pub text_of_stm : Stm → List ℕ
 text_of_stm = fold-Stm (List ℕ) stm_text
+
+-- the arms of a `case`
+abbrev pub case_arm_texts : List (CaseArm Stm) → List (List ℕ)
+case_arm_texts arms = map text_of_case_arm (map (case_arm.map Stm (List ℕ) text_of_stm) arms)
+
+-- the arms of a `match`
+abbrev pub match_arm_texts : List (MatchArm Stm) → List (List ℕ)
+match_arm_texts arms = map text_of_match_arm (map (match_arm.map Stm (List ℕ) text_of_stm) arms)
 
 -- one layer of an assertion
 abbrev pub assertion_text : a.Assertion-F (List ℕ) → List ℕ

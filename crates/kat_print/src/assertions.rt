@@ -1,7 +1,7 @@
 // Assertions.
 
-ghost use Rattle.std.specs.Prelude.{◌≡◌, ◌++◌, ◌∷◌, OnOk};
-ghost use Rattle.kat_print.specs.Texts.{text_of_assertion, text_holding};
+ghost use Rattle.std.specs.Prelude.{◌≡◌, ◌++◌, ◌∷◌, map, codes, OnOk};
+ghost use Rattle.kat_print.specs.Texts.{listed, text_of_assertion, text_holding};
 
 use crate::expressions::{put_named_of, put_named_of_all, put_of, put_of_two, put_part};
 use crate::printed::Printed;
@@ -10,6 +10,7 @@ use kat_syntax::Assertion;
 use std::alloc::AllocError;
 
 /// An assertion.
+#[cycle(assertion)]
 pub fn put_assertion(out: &mut Printed, assertion: &Assertion) -> Result<(), AllocError>
     ensures { OnOk result (out.new ≡ out.old ++ text_of_assertion assertion.now) }
 {
@@ -17,14 +18,7 @@ pub fn put_assertion(out: &mut Printed, assertion: &Assertion) -> Result<(), All
         Assertion::Pure(test) => put_of(out, "pure", test),
         Assertion::Register { register, value } => put_named_of(out, "reg", register, value),
         Assertion::Cell { index, value } => put_of_two(out, "cell", index, value),
-        Assertion::Star(parts) => {
-            out.open("star")?;
-            for part in parts.as_slice() {
-                out.space()?;
-                put_assertion(out, part)?;
-            }
-            out.close()
-        }
+        Assertion::Star(parts) => put_star(out, parts.as_slice()),
         Assertion::If {
             test,
             then,
@@ -32,18 +26,15 @@ pub fn put_assertion(out: &mut Printed, assertion: &Assertion) -> Result<(), All
         } => {
             out.open("if")?;
             put_part(out, test)?;
-            out.space()?;
-            put_assertion(out, then.get())?;
-            out.space()?;
-            put_assertion(out, otherwise.get())?;
+            put_assertion_part(out, then.get())?;
+            put_assertion_part(out, otherwise.get())?;
             out.close()
         }
         Assertion::Exists { name, ty, body } => {
             out.open("exists")?;
             out.space()?;
             put_typed(out, name, ty)?;
-            out.space()?;
-            put_assertion(out, body.get())?;
+            put_assertion_part(out, body.get())?;
             out.close()
         }
         Assertion::Predicate { predicate, args } => {
@@ -55,7 +46,19 @@ pub fn put_assertion(out: &mut Printed, assertion: &Assertion) -> Result<(), All
     }
 }
 
+#[cycle(assertion)]
+fn put_star(out: &mut Printed, parts: &[Assertion]) -> Result<(), AllocError>
+    ensures { OnOk result (out.new ≡ out.old ++ listed (codes "star") (map text_of_assertion parts.now)) }
+{
+    out.open("star")?;
+    for part in parts {
+        put_assertion_part(out, part)?;
+    }
+    out.close()
+}
+
 /// An assertion behind a space.
+#[cycle(assertion)]
 pub fn put_assertion_part(out: &mut Printed, assertion: &Assertion) -> Result<(), AllocError>
     ensures { OnOk result (out.new ≡ out.old ++ 32 ∷ text_of_assertion assertion.now) }
 {

@@ -103,6 +103,7 @@ fn put_bits(out: &mut Printed, width: u64, number: u64) -> Result<(), AllocError
 }
 
 /// An expression.
+#[cycle(expr)]
 pub fn put_expr(out: &mut Printed, expr: &Expr) -> Result<(), AllocError>
     ensures { OnOk result (out.new ≡ out.old ++ text_of_expr expr.now) }
 {
@@ -113,22 +114,8 @@ pub fn put_expr(out: &mut Printed, expr: &Expr) -> Result<(), AllocError>
         Expr::Truth(false) => out.push("false"),
         Expr::Bits { width, number } => put_bits(out, *width, *number),
         Expr::Of { of, member } => put_two_names(out, "of", of, member),
-        Expr::Make { ctor, payload } => {
-            out.open("make")?;
-            out.name(ctor)?;
-            out.space()?;
-            put_expr(out, payload.get())?;
-            out.close()
-        }
-        Expr::Rec { of, fields } => {
-            out.open("rec")?;
-            out.name(of)?;
-            for field in fields.as_slice() {
-                out.space()?;
-                put_expr(out, field)?;
-            }
-            out.close()
-        }
+        Expr::Make { ctor, payload } => put_named_of(out, "make", ctor, payload.get()),
+        Expr::Rec { of, fields } => put_named_of_all(out, "rec", of, fields.as_slice()),
         Expr::Register(register) => put_named(out, "reg", register),
         Expr::Kept(register) => put_named(out, "kept", register),
         Expr::KeptCell(cell) => put_numbered(out, "kept_cell", *cell),
@@ -136,27 +123,35 @@ pub fn put_expr(out: &mut Printed, expr: &Expr) -> Result<(), AllocError>
         Expr::After(register) => put_named(out, "after", register),
         Expr::BeforeCell(cell) => put_numbered(out, "before_cell", *cell),
         Expr::AfterCell(cell) => put_numbered(out, "after_cell", *cell),
-        Expr::Apply { op, args } => {
-            out.open(word_of(*op))?;
-            put_numbers(out, *op)?;
-            for arg in args.as_slice() {
-                out.space()?;
-                put_expr(out, arg)?;
-            }
-            out.close()
-        }
-        Expr::Get { of, field, value } => {
-            out.open("get")?;
-            out.name(of)?;
-            out.name(field)?;
-            out.space()?;
-            put_expr(out, value.get())?;
-            out.close()
-        }
+        Expr::Apply { op, args } => put_apply(out, *op, args.as_slice()),
+        Expr::Get { of, field, value } => put_get(out, of, field, value.get()),
     }
 }
 
+// An operation with its arguments.
+#[cycle(expr)]
+fn put_apply(out: &mut Printed, op: Op, args: &[Expr]) -> Result<(), AllocError>
+    ensures { OnOk result (out.new ≡ out.old ++ listed (text_of_op op) (map text_of_expr args.now)) }
+{
+    out.open(word_of(op))?;
+    put_numbers(out, op)?;
+    put_exprs(out, args)?;
+    out.close()
+}
+
+#[cycle(expr)]
+fn put_get(out: &mut Printed, of: &Text, field: &Text, value: &Expr) -> Result<(), AllocError>
+    ensures { OnOk result (out.new ≡ out.old ++ listed (codes "get") (of.now ∷ field.now ∷ text_of_expr value.now ∷ [])) }
+{
+    out.open("get")?;
+    out.name(of)?;
+    out.name(field)?;
+    put_part(out, value)?;
+    out.close()
+}
+
 /// An expression behind a space.
+#[cycle(expr)]
 pub fn put_part(out: &mut Printed, expr: &Expr) -> Result<(), AllocError>
     ensures { OnOk result (out.new ≡ out.old ++ 32 ∷ text_of_expr expr.now) }
 {
@@ -165,6 +160,7 @@ pub fn put_part(out: &mut Printed, expr: &Expr) -> Result<(), AllocError>
 }
 
 /// Expressions, each behind a space.
+#[cycle(expr)]
 pub fn put_exprs(out: &mut Printed, exprs: &[Expr]) -> Result<(), AllocError>
     ensures { OnOk result (out.new ≡ out.old ++ behind_spaces (map text_of_expr exprs.now)) }
 {
@@ -199,6 +195,7 @@ pub fn put_of_two(
 }
 
 /// A form with a name and an expression.
+#[cycle(expr)]
 pub fn put_named_of(
     out: &mut Printed,
     head: &str,
@@ -214,6 +211,7 @@ pub fn put_named_of(
 }
 
 /// A form with a name and expressions.
+#[cycle(expr)]
 pub fn put_named_of_all(
     out: &mut Printed,
     head: &str,

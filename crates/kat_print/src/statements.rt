@@ -1,73 +1,32 @@
 // Statements.
 
-ghost use Rattle.std.specs.Prelude.{◌≡◌, ◌++◌, ◌∷◌, map, OnOk};
+ghost use Rattle.std.specs.Prelude.{◌≡◌, ◌++◌, [], ◌∷◌, map, codes, OnOk};
 ghost use Rattle.kat_tree.specs.Written.{behind_spaces};
-ghost use Rattle.kat_print.specs.Texts.{text_of_stm};
+ghost use Rattle.kat_print.specs.Texts.{listed, text_of_expr, text_of_stm, case_arm_texts, match_arm_texts};
 
 use crate::expressions::{put_named, put_named_of, put_named_of_all, put_of, put_of_two, put_part};
 use crate::printed::Printed;
-use kat_syntax::Stm;
+use kat_syntax::{CaseArm, Expr, MatchArm, Stm};
+use kat_text::Text;
+use sqlite_items::Items;
 use std::alloc::AllocError;
 
 /// A statement.
+#[cycle(stm)]
 pub fn put_stm(out: &mut Printed, stm: &Stm) -> Result<(), AllocError>
     ensures { OnOk result (out.new ≡ out.old ++ text_of_stm stm.now) }
 {
     match stm {
         Stm::Ret(value) => put_of(out, "ret", value),
-        Stm::Let { name, first, then } => {
-            out.open("let")?;
-            out.name(name)?;
-            out.space()?;
-            put_stm(out, first.get())?;
-            out.space()?;
-            put_stm(out, then.get())?;
-            out.close()
-        }
-        Stm::Seq(parts) => {
-            out.open("seq")?;
-            for part in parts.as_slice() {
-                out.space()?;
-                put_stm(out, part)?;
-            }
-            out.close()
-        }
+        Stm::Let { name, first, then } => put_let(out, name, first.get(), then.get()),
+        Stm::Seq(parts) => put_seq(out, parts.as_slice()),
         Stm::If {
             test,
             then,
             otherwise,
-        } => {
-            out.open("if")?;
-            put_part(out, test)?;
-            out.space()?;
-            put_stm(out, then.get())?;
-            out.space()?;
-            put_stm(out, otherwise.get())?;
-            out.close()
-        }
-        Stm::Case { value, arms } => {
-            out.open("case")?;
-            put_part(out, value)?;
-            for arm in arms.as_slice() {
-                out.open_part(arm.member.as_str())?;
-                out.space()?;
-                put_stm(out, &arm.body)?;
-                out.close()?;
-            }
-            out.close()
-        }
-        Stm::Match { value, arms } => {
-            out.open("match")?;
-            put_part(out, value)?;
-            for arm in arms.as_slice() {
-                out.open_part(arm.ctor.as_str())?;
-                out.name(&arm.payload)?;
-                out.space()?;
-                put_stm(out, &arm.body)?;
-                out.close()?;
-            }
-            out.close()
-        }
+        } => put_if(out, test, then.get(), otherwise.get()),
+        Stm::Case { value, arms } => put_case(out, value, arms),
+        Stm::Match { value, arms } => put_match(out, value, arms),
         Stm::Read(register) => put_named(out, "read", register),
         Stm::Write { register, value } => put_named_of(out, "write", register, value),
         Stm::Load(index) => put_of(out, "load", index),
@@ -85,7 +44,68 @@ pub fn put_stm(out: &mut Printed, stm: &Stm) -> Result<(), AllocError>
     }
 }
 
+#[cycle(stm)]
+fn put_let(out: &mut Printed, name: &Text, first: &Stm, then: &Stm) -> Result<(), AllocError>
+    ensures { OnOk result (out.new ≡ out.old ++ listed (codes "let") (name.now ∷ text_of_stm first.now ∷ text_of_stm then.now ∷ [])) }
+{
+    out.open("let")?;
+    out.name(name)?;
+    put_stm_part(out, first)?;
+    put_stm_part(out, then)?;
+    out.close()
+}
+
+#[cycle(stm)]
+fn put_seq(out: &mut Printed, parts: &[Stm]) -> Result<(), AllocError>
+    ensures { OnOk result (out.new ≡ out.old ++ listed (codes "seq") (map text_of_stm parts.now)) }
+{
+    out.open("seq")?;
+    put_stms(out, parts)?;
+    out.close()
+}
+
+#[cycle(stm)]
+fn put_if(out: &mut Printed, test: &Expr, then: &Stm, otherwise: &Stm) -> Result<(), AllocError>
+    ensures { OnOk result (out.new ≡ out.old ++ listed (codes "if") (text_of_expr test.now ∷ text_of_stm then.now ∷ text_of_stm otherwise.now ∷ [])) }
+{
+    out.open("if")?;
+    put_part(out, test)?;
+    put_stm_part(out, then)?;
+    put_stm_part(out, otherwise)?;
+    out.close()
+}
+
+#[cycle(stm)]
+fn put_case(out: &mut Printed, value: &Expr, arms: &Items<CaseArm<Stm>>) -> Result<(), AllocError>
+    ensures { OnOk result (out.new ≡ out.old ++ listed (codes "case") (text_of_expr value.now ∷ case_arm_texts arms.now)) }
+{
+    out.open("case")?;
+    put_part(out, value)?;
+    for arm in arms.as_slice() {
+        out.open_part(arm.member.as_str())?;
+        put_stm_part(out, &arm.body)?;
+        out.close()?;
+    }
+    out.close()
+}
+
+#[cycle(stm)]
+fn put_match(out: &mut Printed, value: &Expr, arms: &Items<MatchArm<Stm>>) -> Result<(), AllocError>
+    ensures { OnOk result (out.new ≡ out.old ++ listed (codes "match") (text_of_expr value.now ∷ match_arm_texts arms.now)) }
+{
+    out.open("match")?;
+    put_part(out, value)?;
+    for arm in arms.as_slice() {
+        out.open_part(arm.ctor.as_str())?;
+        out.name(&arm.payload)?;
+        put_stm_part(out, &arm.body)?;
+        out.close()?;
+    }
+    out.close()
+}
+
 /// A statement behind a space.
+#[cycle(stm)]
 pub fn put_stm_part(out: &mut Printed, stm: &Stm) -> Result<(), AllocError>
     ensures { OnOk result (out.new ≡ out.old ++ 32 ∷ text_of_stm stm.now) }
 {
@@ -94,6 +114,7 @@ pub fn put_stm_part(out: &mut Printed, stm: &Stm) -> Result<(), AllocError>
 }
 
 /// Statements, each behind a space.
+#[cycle(stm)]
 pub fn put_stms(out: &mut Printed, stms: &[Stm]) -> Result<(), AllocError>
     ensures { OnOk result (out.new ≡ out.old ++ behind_spaces (map text_of_stm stms.now)) }
 {

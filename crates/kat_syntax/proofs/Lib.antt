@@ -26,3 +26,4 @@ pub mod StmCount
 pub mod AssertionCount
 pub mod DeclCount
 pub mod Writable
+pub mod Reading

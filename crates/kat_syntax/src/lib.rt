@@ -35,4 +35,4 @@ pub use soundness::{
 };
 pub use stm::{CaseArm, MatchArm, Stm};
 pub use wanted::Wanted;
-pub use written::{one_form, places_are_of_the_tree, specifications_can_be_written};
+pub use written::{one_form, one_reading, places_are_of_the_tree, specifications_can_be_written};

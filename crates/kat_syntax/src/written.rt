@@ -1,6 +1,6 @@
 // What the trees of forms are good for.
 
-ghost use Rattle.std.specs.Prelude.{◌≡◌, true, List};
+ghost use Rattle.std.specs.Prelude.{◌≡◌, true, ℕ, List};
 ghost use Rattle.std.specs.List.{AllByRecursion};
 ghost use Rattle.kat_tree.specs.Preorder.{count_of};
 ghost use Rattle.kat_tree.specs.Written.{IsWritable};
@@ -17,7 +17,9 @@ ghost use Rattle.kat_syntax.specs.Trees.{trees_of_type, trees_of_params, trees_o
 ghost use Rattle.kat_syntax.specs.Written.{tree_of_type, tree_of_params, tree_of_expr, tree_of_stm, tree_of_assertion, tree_of_phase, tree_of_when, tree_of_decl};
 ghost use Rattle.kat_syntax.specs.Formed.{is_formed_type, is_formed_expr, is_formed_stm, is_formed_assertion, is_formed_decl};
 ghost use Rattle.kat_syntax.specs.WellFormed.{IsDecl};
-ghost use Rattle.kat_syntax.specs.Describes.{tree_of_spec};
+ghost use Rattle.kat_syntax.specs.Describes.{tree_of_spec, Reads};
+
+use kat_tree::one_tree;
 
 /// A tree is that of at most one form: two specifications with one tree are the same, and so are two types,
 /// expressions, statements, assertions and declarations. The function does nothing: its contract is the law.
@@ -29,6 +31,15 @@ pub fn one_form()
     ensures decl { (a b : DeclForm) → is_formed_decl a ≡ true → is_formed_decl b ≡ true → tree_of_decl a ≡ tree_of_decl b → a ≡ b }
     ensures spec { (a b : Spec) → AllByRecursion (λ (d : DeclForm). is_formed_decl d ≡ true) a.decls → AllByRecursion (λ (d : DeclForm). is_formed_decl d ≡ true) b.decls → tree_of_spec a ≡ tree_of_spec b → a ≡ b }
 {}
+
+/// Bytes stand for at most one specification: they spell at most one tree, and it describes at most one specification.
+/// The function does nothing: its contract is the law.
+pub fn one_reading()
+    ensures { (bytes : List ℕ) (a b : Spec) → Reads bytes a → Reads bytes b → a ≡ b }
+{
+    one_form();
+    one_tree();
+}
 
 /// The place of a part in its declaration is that of its tree: a form has as many trees as the tree that it is written
 /// as. The function does nothing: its contract is the law.

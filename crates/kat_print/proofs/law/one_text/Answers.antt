@@ -1,5 +1,7 @@
-use Rattle.kat_print.proofs.Reading.{text_tells}
+use Rattle.std.proofs.Common.{subst, sym}
+use Rattle.kat_syntax.specs.Describes.{Reads, canonical_text}
 use Rattle.kat_print.proofs.law.one_text.Goals as goal
 
+-- the one text is read as both
 pub returns : goal.returns
-returns c = text_tells c.reads_back.ensures c.one_tree.ensures c.one_form.ensures.spec
+returns c = λ a b first second same. c.one_reading.ensures (canonical_text a) a b (c.reads_back.ensures a first) (subst (λ bytes. Reads bytes b) (sym same) (c.reads_back.ensures b second))

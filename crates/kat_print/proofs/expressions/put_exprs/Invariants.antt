@@ -1,8 +1,0 @@
-use Rattle.std.proofs.Common.{◌≡◌, ◌++◌, drop, map}
-use Rattle.kat_tree.specs.Written.{behind_spaces}
-use Rattle.kat_print.specs.Texts.{text_of_expr}
-use Rattle.kat_print.proofs.expressions.put_exprs.Given as goal
-
--- the expressions that are still to come make the text whole
-abbrev pub invariant-loop-expr : goal.invariant-loop-expr
-invariant-loop-expr l = l.out ++ behind_spaces (map text_of_expr (drop l.expr-index l.exprs)) ≡ l.initial.out ++ behind_spaces (map text_of_expr l.exprs)
