@@ -15,7 +15,6 @@ use Rattle.kat_top.specs.Files.{Agrees, IsSpecOf, IsMachineOf, IsStartOf}
 use Rattle.kat_top.specs.Answer.{refusal_of, print_answer, job_answer, IsStartAsTold}
 use Rattle.kat_top.specs.Causes.{StandsFor, StandsForNothing, IsMachine, IsFromOutside}
 use Rattle.kat_top.proofs.Outcomes.{IsOfText}
-use Rattle.kat_top.proofs.OneOutcome.{same_spec}
 use Rattle.kat_top.proofs.GivenStatus.{IsOrOutside, ran_status}
 use Rattle.kat_top.proofs.RefusedFile.{Outside, TooMany, OfText, CameOf, came_of, no_machine, no_spec, agreed, form_if_few}
 
@@ -38,7 +37,7 @@ module _ (laws : FileLaws) where
   form_comes_run job t u (Ok spec) (Ok state) (inr (s, m, none)) agrees starts =
       let known = agreed IsMachineOf t m.bytes (Ok spec) m.is_told agrees in
       let started = agreed (IsStartOf spec) u none.bytes (Ok state) none.is_told starts in
-      absurd (none.nothing state (subst (λ s. IsImageOf s none.bytes state) (same_spec laws m.bytes spec s known.1.0 m.stands.0) started.1))
+      absurd (none.nothing state (subst (λ s. IsImageOf s none.bytes state) (laws.one_spec m.bytes spec s known.1.0 m.stands.0) started.1))
 
   -- a file whose refusal has the status `Form` stands for nothing
   pub nothing_of : {A : Type 0} (Stands : List ℕ → A → Type 0) (P : List ℕ → Result A Refusal → Type 0) (name : Name) (bytes : List ℕ) (refusal : Refusal) →

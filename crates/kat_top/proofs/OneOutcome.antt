@@ -30,10 +30,6 @@ IsDecided (Err Long) = ⊥
 IsDecided (Err Memory) = ⊥
 IsDecided outcome = Unit {0}
 
-all_formed : (decls : List DeclForm) → AllByRecursion IsDecl decls → AllByRecursion (λ (d : DeclForm). is_formed_decl d ≡ true) decls
-all_formed [] all = tt
-all_formed (d ∷ decls) all = (all.0.formed, all_formed decls all.1)
-
 kind_is : (kind : TreeKind) (offset : ℕ) → refused_tree (fault_of kind offset) ≡ Tree kind offset
 kind_is NotText offset = refl
 kind_is Unclosed offset = refl
@@ -48,11 +44,6 @@ module _ (laws : FileLaws) where
   pub no_fault : (bytes : List ℕ) (tree : TextTree) (kind : TreeKind) (offset : ℕ) → Spells bytes tree → IsFirstFault bytes (fault_of kind offset) → ⊥
   no_fault bytes tree kind offset x y = let e = laws.one_outcome bytes (Ok tree) (Err (fault_of kind offset)) x y in absurd (cc)
 
-  pub same_spec : (bytes : List ℕ) (a b : Spec) → Reads bytes a → Reads bytes b → a ≡ b
-  same_spec bytes a b x y =
-      let trees = same_tree bytes x.tree y.tree x.spelled y.spelled in
-      laws.one_spec a b (all_formed a.decls x.described.decls) (all_formed b.decls y.described.decls) (sym x.described.tree_is ∙ trees ∙ y.described.tree_is)
-
   pub no_misfit : (bytes : List ℕ) (spec : Spec) (tree : TextTree) (misfit : Misfit) → Reads bytes spec → Spells bytes tree → IsFirstMisfit tree misfit → ⊥
   no_misfit bytes spec tree misfit x y m =
       let e = laws.described_fits x.tree spec x.described in
@@ -60,7 +51,7 @@ module _ (laws : FileLaws) where
       let f = ap (fits sort.Spec) same in let g = m.misfits in absurd (cc)
 
   pub one_reading : (bytes : List ℕ) (a b : Result Spec Refusal) → IsDecided a → IsDecided b → IsSpecOf bytes a → IsSpecOf bytes b → a ≡ b
-  one_reading bytes (Ok a) (Ok b) p q x y = ap Ok (same_spec bytes a b x y)
+  one_reading bytes (Ok a) (Ok b) p q x y = ap Ok (laws.one_spec bytes a b x y)
   one_reading bytes (Ok a) (Err (Tree kind offset)) p q x y = absurd (no_fault bytes x.tree kind offset x.spelled y)
   one_reading bytes (Ok a) (Err (Form place wanted)) p q x y = absurd (no_misfit bytes a y.0 _ x y.1 y.2)
   one_reading bytes (Err (Tree kind offset)) (Ok b) p q x y = absurd (no_fault bytes y.tree kind offset y.spelled x)
@@ -90,9 +81,9 @@ module _ (laws : FileLaws) where
   one_machine bytes a (Err Failed) p q x y = absurd q
   one_machine bytes a (Err Long) p q x y = absurd q
   one_machine bytes a (Err Memory) p q x y = absurd q
-  one_machine bytes (Ok a) (Ok b) p q x y = ap Ok (same_spec bytes a b x.0 y.0)
-  one_machine bytes (Ok a) (Err Unbuilt) p q x y = absurd (y.2 (subst IsFirstForm (same_spec bytes a y.0 x.0 y.1) x.1))
-  one_machine bytes (Err Unbuilt) (Ok b) p q x y = absurd (x.2 (subst IsFirstForm (same_spec bytes b x.0 y.0 x.1) y.1))
+  one_machine bytes (Ok a) (Ok b) p q x y = ap Ok (laws.one_spec bytes a b x.0 y.0)
+  one_machine bytes (Ok a) (Err Unbuilt) p q x y = absurd (y.2 (subst IsFirstForm (laws.one_spec bytes a y.0 x.0 y.1) x.1))
+  one_machine bytes (Err Unbuilt) (Ok b) p q x y = absurd (x.2 (subst IsFirstForm (laws.one_spec bytes b x.0 y.0 x.1) y.1))
   one_machine bytes (Err Unbuilt) (Err Unbuilt) p q x y = refl
   one_machine bytes (Ok a) (Err (Tree kind offset)) p q x y = one_reading bytes (Ok a) (Err (Tree kind offset)) tt tt x.0 y
   one_machine bytes (Ok a) (Err (Form place wanted)) p q x y = one_reading bytes (Ok a) (Err (Form place wanted)) tt tt x.0 y

@@ -13,7 +13,7 @@ use Rattle.kat_top.specs.Files.{most_bytes, Agrees, IsSpecOf, IsMachineOf}
 use Rattle.kat_top.specs.Answer.{refusal_of}
 use Rattle.kat_top.specs.Causes.{IsMachine, IsFromOutside}
 use Rattle.kat_top.proofs.Outcomes.{IsOfText}
-use Rattle.kat_top.proofs.OneOutcome.{same_spec, no_fault, no_misfit}
+use Rattle.kat_top.proofs.OneOutcome.{no_fault, no_misfit}
 use Rattle.kat_top.proofs.GivenStatus.{IsOrOutside}
 
 -- how the answer to a file that was not taken came: of what failed outside, of bytes that are too many, or of bytes that
@@ -43,7 +43,7 @@ module _ (laws : FileLaws) where
   pub no_machine : (bytes : List ℕ) (refusal : Refusal) → IsMachineOf bytes (Err refusal) → IsOfText refusal → (spec : Spec) → IsMachine bytes spec → ⊥
   no_machine bytes (Tree kind offset) is text spec machine = no_fault laws bytes machine.0.tree kind offset machine.0.spelled is
   no_machine bytes (Form place wanted) is text spec machine = no_misfit laws bytes spec is.0 _ machine.0 is.1 is.2
-  no_machine bytes Unbuilt is text spec machine = is.2 (subst IsFirstForm (same_spec laws bytes spec is.0 machine.0 is.1) machine.1)
+  no_machine bytes Unbuilt is text spec machine = is.2 (subst IsFirstForm (laws.one_spec bytes spec is.0 machine.0 is.1) machine.1)
   no_machine bytes Failed is text spec machine = absurd text
   no_machine bytes Long is text spec machine = absurd text
   no_machine bytes Memory is text spec machine = absurd text
