@@ -7,12 +7,20 @@ use sqlite_items::Items;
 use std::alloc::{AllocError, Global};
 use std::test::Fail;
 
-const COUNTER: &str =
+// A machine that adds one to its register while that is below three, and then fails.
+const TO_THREE: &str =
     "(spec 1 (register n (bits 8) plain) (fun f () unit (let a (read n) (if (ult a (bits 8 3)) (write n (add a (bits 8 1))) (fail)))) (step f))";
 
 // The same with a call in place of its `fail`.
 const WITH_CALL: &str =
     "(spec 1 (register n (bits 8) plain) (fun f () unit (let a (read n) (if (ult a (bits 8 3)) (write n (add a (bits 8 1))) (call f)))) (step f))";
+
+// One bracket more is open than may be.
+const SIXTY_FIVE_OPEN: &str = "(((((((((((((((((((((((((((((((((((((((((((((((((((((((((((((((((";
+
+// As many brackets are open as may be.
+const SIXTY_FOUR_NESTED: &str =
+    "(((((((((((((((((((((((((((((((((((((((((((((((((((((((((((((((())))))))))))))))))))))))))))))))))))))))))))))))))))))))))))))))";
 
 // The two files of a run.
 fn two_files(alloc: Global, spec: &[u8], image: &str) -> Result<Vec<Named>, AllocError> {
@@ -77,8 +85,8 @@ fn agrees(alloc: Global, row: &Row<'_>) -> Result<bool, AllocError> {
     Ok(status == row.status && out.contents() == row.text.as_bytes())
 }
 
-// Whether a run of the counter from 1 answers so.
-fn counter_agrees(
+// Whether a run of the machine that counts to three answers so, from 1.
+fn count_agrees(
     alloc: Global,
     words: &str,
     status: Status,
@@ -86,7 +94,7 @@ fn counter_agrees(
 ) -> Result<bool, AllocError> {
     let row = Row {
         words,
-        spec: COUNTER.as_bytes(),
+        spec: TO_THREE.as_bytes(),
         image: "reg n 0x01\n",
         failing_read: 0,
         failing_write: 0,
@@ -144,7 +152,7 @@ fn runs_write_their_states(rt: HostRuntime) -> Result<(), Fail> {
         ),
     ];
     for (words, status, text) in rows {
-        let agrees = counter_agrees(rt.alloc(), words, status, text)?;
+        let agrees = count_agrees(rt.alloc(), words, status, text)?;
         assert!(rt; agrees, "at {words}");
     }
     Ok(())
@@ -163,10 +171,10 @@ fn texts_and_images_that_are_not_built(rt: HostRuntime) -> Result<(), Fail> {
             "(spec 1 (memory 8 8 0 16) (fun f () unit (fail)) (step f))",
             "",
         ),
-        (COUNTER, "reg  n 0x01"),
-        (COUNTER, "reg n 256"),
-        (COUNTER, "reg n 1\nreg n 1"),
-        (COUNTER, "reg n 1\r\n"),
+        (TO_THREE, "reg  n 0x01"),
+        (TO_THREE, "reg n 256"),
+        (TO_THREE, "reg n 1\nreg n 1"),
+        (TO_THREE, "reg n 1\r\n"),
     ];
     for (spec, image) in rows {
         let unbuilt = is_unbuilt(rt.alloc(), spec, image)?;
@@ -206,6 +214,8 @@ fn texts_are_printed_or_refused(rt: HostRuntime) -> Result<(), Fail> {
         ("(spec 1", Status::Form, "tree unclosed 7\n"),
         ("(spec 1)(spec 1)", Status::Form, "tree stray 8\n"),
         ("(spec 1 2x)", Status::Form, "tree token 8\n"),
+        (SIXTY_FIVE_OPEN, Status::Form, "tree deep 64\n"),
+        (SIXTY_FOUR_NESTED, Status::Form, "form 0 spec\n"),
         ("(spec 2)", Status::Form, "form 2 version\n"),
         ("(spec 1 (enum x ()))", Status::Form, "form 6 part\n"),
         ("(spec 1 (code 0))", Status::Form, "form 3 declaration\n"),
@@ -227,7 +237,7 @@ fn texts_are_printed_or_refused(rt: HostRuntime) -> Result<(), Fail> {
 fn a_failing_write_leaves_what_was_written(rt: HostRuntime) -> Result<(), Fail> {
     let row = Row {
         words: "run s i --cycles 3 --calls 1",
-        spec: COUNTER.as_bytes(),
+        spec: TO_THREE.as_bytes(),
         image: "reg n 1",
         failing_read: 0,
         failing_write: 2,
@@ -243,7 +253,7 @@ fn a_failing_write_leaves_what_was_written(rt: HostRuntime) -> Result<(), Fail> 
 fn a_failing_read_names_its_file(rt: HostRuntime) -> Result<(), Fail> {
     let row = Row {
         words: "run s i --cycles 3 --calls 1",
-        spec: COUNTER.as_bytes(),
+        spec: TO_THREE.as_bytes(),
         image: "reg n 1",
         failing_read: 2,
         failing_write: 0,
