@@ -2,6 +2,8 @@
 
 ghost use Rattle.kat_syntax.specs.Soundness.{ExpressionsAreSound, StatementsAreSound, CyclesAreSound, OutsideWritesAreSound, StartsAreStates, RegistersAreNamed, RunsAreSound, TextTellsItsRun, BeginningTellsItsRun};
 
+use crate::law::{text_tells_its_end, text_tells_states};
+
 /// An expression without a fault of typing has a value of its type. This is said of the expressions that a machine can be
 /// run of, each operation having its count of arguments, and of locals that are what their scope says: the same names,
 /// each value being of the type that typing knows of it, one of bits having a width of 1 to 64. Where nothing fixes a
@@ -62,8 +64,10 @@ pub fn runs_are_sound()
 /// fewer than 2^64. And where one text begins with the texts of two runs, they are the same, so that an output that was
 /// cut off is the output of no run of that machine. Unlike [`crate::text_tells_states`], this supposes nothing of the
 /// states that a run passes through, nor of its end. The function does nothing: its contract is the law.
-#[tactic(auto, using(crate::proofs::SoundRun::text_tells_its_run, crate::proofs::SoundRun::beginning_tells_its_run))]
 pub fn text_tells_its_run()
     ensures whole { TextTellsItsRun }
     ensures beginning { BeginningTellsItsRun }
-{}
+{
+    text_tells_states();
+    text_tells_its_end();
+}

@@ -15,7 +15,7 @@ mod value;
 
 pub use arithmetic::apply;
 pub use copy::copy_value;
-pub use equality::same_value;
+pub use equality::{equality_is_tested, same_value};
 pub use op::Op;
 pub use operate::operate_on_two;
 pub use types::{Field, Ty, TypeDecl, Types};
