@@ -34,5 +34,6 @@ pub use soundness::{
     starts_are_states, statements_are_sound, text_tells_its_run,
 };
 pub use stm::{CaseArm, MatchArm, Stm};
+pub use tables::is_function;
 pub use wanted::Wanted;
 pub use written::{one_form, places_are_of_the_tree, specifications_can_be_written};
