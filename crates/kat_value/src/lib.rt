@@ -19,5 +19,5 @@ pub use equality::{equality_is_tested, same_value};
 pub use op::Op;
 pub use operate::operate_on_two;
 pub use types::{Field, Ty, TypeDecl, Types};
-pub use typing::{fits, is_number};
+pub use typing::{fits, is_literal, is_number};
 pub use value::{Value, Values};
