@@ -14,7 +14,7 @@ mod typing;
 mod value;
 
 pub use arithmetic::apply;
-pub use copy::copy_value;
+pub use copy::{copy_value, copy_values};
 pub use equality::{equality_is_tested, same_value};
 pub use op::Op;
 pub use operate::operate_on_two;
