@@ -3,12 +3,12 @@
 // greatest u32, which no declaration comes near.
 
 ghost use Rattle.std.specs.Prelude.{◌≡◌};
-ghost use Rattle.kat_syntax.specs.Trees.{capped, numbers_of_op, trees_of_expr, trees_of_exprs, trees_of_stm, trees_of_type, trees_of_params, trees_of_assertion, trees_of_phase, trees_of_when, trees_of_decl};
+ghost use Rattle.kat_syntax.specs.Trees.{capped, numbers_of_op, trees_of_expr, trees_of_exprs, trees_of_stm, trees_of_stms, trees_of_case_arms, trees_of_match_arms, trees_of_type, trees_of_params, trees_of_assertion, trees_of_phase, trees_of_when, trees_of_decl};
 
 use crate::assertion::Assertion;
 use crate::decl::{DeclForm, Param, Phase, TypeName, When};
 use crate::expr::Expr;
-use crate::stm::Stm;
+use crate::stm::{CaseArm, MatchArm, Stm};
 use kat_value::Op;
 
 fn count_numbers(op: Op) -> u32
@@ -60,6 +60,7 @@ pub fn count_exprs(exprs: &[Expr]) -> u32
 }
 
 /// The trees of a statement.
+#[cycle(statements)]
 pub fn count_stm(stm: &Stm) -> u32
     ensures { result ≡ capped (trees_of_stm stm.now) }
 {
@@ -70,13 +71,7 @@ pub fn count_stm(stm: &Stm) -> u32
         Stm::Let { first, then, .. } => count_stm(first.get())
             .saturating_add(count_stm(then.get()))
             .saturating_add(3),
-        Stm::Seq(parts) => {
-            let mut total: u32 = 2;
-            for part in parts.as_slice() {
-                total = total.saturating_add(count_stm(part));
-            }
-            total
-        }
+        Stm::Seq(parts) => count_stms(parts.as_slice()).saturating_add(2),
         Stm::If {
             test,
             then,
@@ -85,20 +80,12 @@ pub fn count_stm(stm: &Stm) -> u32
             .saturating_add(count_stm(then.get()))
             .saturating_add(count_stm(otherwise.get()))
             .saturating_add(2),
-        Stm::Case { value, arms } => {
-            let mut total = count_expr(value).saturating_add(2);
-            for arm in arms.as_slice() {
-                total = total.saturating_add(count_stm(&arm.body)).saturating_add(2);
-            }
-            total
-        }
-        Stm::Match { value, arms } => {
-            let mut total = count_expr(value).saturating_add(2);
-            for arm in arms.as_slice() {
-                total = total.saturating_add(count_stm(&arm.body)).saturating_add(3);
-            }
-            total
-        }
+        Stm::Case { value, arms } => count_expr(value)
+            .saturating_add(count_case_arms(arms.as_slice()))
+            .saturating_add(2),
+        Stm::Match { value, arms } => count_expr(value)
+            .saturating_add(count_match_arms(arms.as_slice()))
+            .saturating_add(2),
         Stm::Read(_) => 3,
         Stm::Write { value, .. } => count_expr(value).saturating_add(3),
         Stm::Store { index, value } => count_expr(index)
@@ -110,6 +97,42 @@ pub fn count_stm(stm: &Stm) -> u32
         | Stm::Lemma { args, .. } => count_exprs(args.as_slice()).saturating_add(3),
         Stm::Fail => 2,
     }
+}
+
+// The trees of statements side by side.
+#[cycle(statements)]
+fn count_stms(stms: &[Stm]) -> u32
+    ensures { result ≡ capped (trees_of_stms stms.now) }
+{
+    let mut total: u32 = 0;
+    for stm in stms {
+        total = total.saturating_add(count_stm(stm));
+    }
+    total
+}
+
+// The trees of the arms of a `case`.
+#[cycle(statements)]
+fn count_case_arms(arms: &[CaseArm<Stm>]) -> u32
+    ensures { result ≡ capped (trees_of_case_arms arms.now) }
+{
+    let mut total: u32 = 0;
+    for arm in arms {
+        total = total.saturating_add(count_stm(&arm.body)).saturating_add(2);
+    }
+    total
+}
+
+// The trees of the arms of a `match`.
+#[cycle(statements)]
+fn count_match_arms(arms: &[MatchArm<Stm>]) -> u32
+    ensures { result ≡ capped (trees_of_match_arms arms.now) }
+{
+    let mut total: u32 = 0;
+    for arm in arms {
+        total = total.saturating_add(count_stm(&arm.body)).saturating_add(3);
+    }
+    total
 }
 
 /// The trees of a type.
