@@ -48,8 +48,8 @@ pub fn count_expr(expr: &Expr) -> u32
     }
 }
 
-/// The trees of expressions side by side.
-pub fn count_exprs(exprs: &[Expr]) -> u32
+// The trees of expressions side by side.
+fn count_exprs(exprs: &[Expr]) -> u32
     ensures { result ≡ capped (trees_of_exprs exprs.now) }
 {
     let mut total: u32 = 0;
@@ -136,7 +136,7 @@ fn count_match_arms(arms: &[MatchArm<Stm>]) -> u32
 }
 
 /// The trees of a type.
-pub fn count_type(ty: &TypeName) -> u32
+pub(crate) fn count_type(ty: &TypeName) -> u32
     ensures { result ≡ trees_of_type ty.now }
 {
     match ty {
@@ -146,7 +146,7 @@ pub fn count_type(ty: &TypeName) -> u32
 }
 
 /// The trees of a list of parameters, the list itself among them.
-pub fn count_params(params: &[Param]) -> u32
+pub(crate) fn count_params(params: &[Param]) -> u32
     ensures { result ≡ capped (trees_of_params params.now) }
 {
     let mut total: u32 = 1;
@@ -157,7 +157,7 @@ pub fn count_params(params: &[Param]) -> u32
 }
 
 /// The trees of an assertion.
-pub fn count_assertion(assertion: &Assertion) -> u32
+pub(crate) fn count_assertion(assertion: &Assertion) -> u32
     ensures { result ≡ capped (trees_of_assertion assertion.now) }
 {
     match assertion {
@@ -190,8 +190,8 @@ pub fn count_assertion(assertion: &Assertion) -> u32
     }
 }
 
-/// The trees of a phase.
-pub fn count_phase(phase: &Phase) -> u32
+// The trees of a phase.
+fn count_phase(phase: &Phase) -> u32
     ensures { result ≡ trees_of_phase phase.now }
 {
     match phase {
@@ -201,7 +201,7 @@ pub fn count_phase(phase: &Phase) -> u32
 }
 
 /// The trees of a case of the dispatch.
-pub fn count_when(case: &When) -> u32
+pub(crate) fn count_when(case: &When) -> u32
     ensures { result ≡ capped (trees_of_when case.now) }
 {
     count_expr(&case.test)

@@ -18,10 +18,7 @@ mod written;
 
 pub use assertion::Assertion;
 pub use checked::{Checked, StepFunction};
-pub use count::{
-    count_assertion, count_expr, count_exprs, count_params, count_phase, count_stm, count_type,
-    count_when,
-};
+pub use count::{count_expr, count_stm};
 pub use decl::{
     Block, CellsKind, Decl, DeclForm, Param, Phase, RegisterKind, Spec, TypeName, When,
 };
