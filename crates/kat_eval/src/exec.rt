@@ -12,7 +12,7 @@ use crate::eval::eval;
 use crate::locals::Locals;
 use crate::registers::{read_register, write_register};
 use crate::running::{Before, Running, Site, StmEnd};
-use kat_syntax::{Checked, Stm};
+use kat_syntax::{Checked, Stm, statements_do_their_parts};
 use kat_value::Value;
 use std::alloc::{AllocError, Global};
 
@@ -38,6 +38,7 @@ pub fn exec(
         ≡ outcome_of end (progress_of running.new)) }
     ensures within { IfOk result (IsBelow (trees_of_stm stm.now) 0) }
 {
+    statements_do_their_parts();
     match stm {
         Stm::Ret(value) => Ok(StmEnd::Done(eval(alloc, value, locals)?)),
         Stm::Let { name, first, then } => {

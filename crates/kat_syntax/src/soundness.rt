@@ -1,5 +1,7 @@
 // What a specification without faults of typing never meets.
 
+ghost use Rattle.kat_syntax.specs.declared.decl.Spec.{Spec};
+ghost use Rattle.kat_syntax.specs.Runnable.{IsTyped, IsFirstForm, HasDistinctRegisters, HasStepFunction};
 ghost use Rattle.kat_syntax.specs.Soundness.{ExpressionsAreSound, StatementsAreSound, CyclesAreSound, OutsideWritesAreSound, StartsAreStates, RegistersAreNamed, RunsAreSound, TextTellsItsRun, BeginningTellsItsRun};
 
 use crate::law::{text_tells_its_end, text_tells_states};
@@ -40,6 +42,15 @@ pub fn cycles_are_sound()
 #[tactic(auto, using(crate::proofs::SoundNames::registers_named))]
 pub fn registers_are_named()
     ensures { RegistersAreNamed }
+{}
+
+/// The registers of a specification without faults of typing have distinct names. One that can be run has at
+/// most 4,096 declarations, a step declaration, and the function that it names, which has no parameters. The function
+/// does nothing: its contract is the law.
+#[tactic(auto, using(crate::proofs::TypingLaws::registers_are_distinct, crate::proofs::TypingLaws::step_function_is_there))]
+pub fn typed_specifications_have_tables()
+    ensures registers { (spec : Spec) → IsTyped spec → HasDistinctRegisters spec }
+    ensures step { (spec : Spec) → IsFirstForm spec → HasStepFunction spec }
 {}
 
 /// The state in which every register has the first value of its type is a state of the machine, of a specification of the
