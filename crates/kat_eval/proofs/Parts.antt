@@ -11,7 +11,7 @@ use Rattle.kat_syntax.specs.Tables.{Name}
 use Rattle.kat_syntax.specs.Trees.{trees_of_expr, trees_of_stm, stm_trees}
 use Rattle.kat_syntax.specs.Machine.{Progress}
 use Rattle.kat_syntax.specs.Meaning.{Locals, Outcome, Done, then_do, inside, is_true, value_of_expr, Calls, meaning}
-use Rattle.kat_syntax.specs.MeaningLaws.{meaning_let, meaning_if}
+use Rattle.kat_syntax.specs.MeaningByParts.{LetByParts, IfByParts}
 use Rattle.kat_eval.specs.declared.running.StmEnd.{StmEnd}
 use Rattle.kat_eval.specs.declared.running.StmEnd.TheVariants.{Done as DoneEnd, Out as OutEnd, Fail as FailEnd}
 use Rattle.kat_eval.specs.declared.running.Site.TheVariants.{Here as HereEnd, There as ThereEnd}
@@ -39,13 +39,13 @@ then_do_not_done (FailEnd (ThereEnd place)) p at go not_done = refl
 
 module _ (names : List Name) (calls : Calls) (s : Stm) (locals : Locals) (p : Progress) where
   -- a `let` whose first part is done
-  pub let_done : (x : Name) (first second : Stm) (a b : Stm) (value : Value) (inner : Locals) (q r : Progress) (end result : StmEnd) →
+  pub let_done : LetByParts → (x : Name) (first second : Stm) (a b : Stm) (value : Value) (inner : Locals) (q r : Progress) (end result : StmEnd) →
       s ≡ LetStm x first second → a ≡ first → b ≡ second →
       meaning names calls a locals p ≡ Done value q → inner ≡ (x, value) ∷ locals → meaning names calls b inner q ≡ outcome_of end r →
       outcome_of result r ≡ inside (3 + trees_of_stm a) (outcome_of end r) →
       meaning names calls s locals p ≡ outcome_of result r
-  let_done x first second a b value inner q r end result is a_is b_is done inner_is then_ moved =
-      meaning_let names calls s x first second (out_let s x first second is) locals p
+  let_done law x first second a b value inner q r end result is a_is b_is done inner_is then_ moved =
+      ap (λ t. meaning names calls t locals p) is ∙ law names calls x first second locals p
       ∙ ap (λ m. then_do (inside 3 (meaning names calls m locals p)) (λ v next. inside (3 + trees_of_stm m) (meaning names calls second ((x, v) ∷ locals) next))) (sym a_is)
       ∙ ap (λ o. then_do (inside 3 o) (λ v next. inside (3 + trees_of_stm a) (meaning names calls second ((x, v) ∷ locals) next))) done
       ∙ ap (λ m. inside (3 + trees_of_stm a) (meaning names calls m ((x, value) ∷ locals) q)) (sym b_is)
@@ -53,34 +53,34 @@ module _ (names : List Name) (calls : Calls) (s : Stm) (locals : Locals) (p : Pr
       ∙ ap (inside (3 + trees_of_stm a)) then_ ∙ sym moved
 
   -- a `let` whose first part is not done
-  pub let_not_done : (x : Name) (first second : Stm) (a : Stm) (q : Progress) (end result : StmEnd) →
+  pub let_not_done : LetByParts → (x : Name) (first second : Stm) (a : Stm) (q : Progress) (end result : StmEnd) →
       s ≡ LetStm x first second → a ≡ first →
       meaning names calls a locals p ≡ outcome_of end q → IsNotDone end →
       outcome_of result q ≡ inside 3 (outcome_of end q) →
       meaning names calls s locals p ≡ outcome_of result q
-  let_not_done x first second a q end result is a_is ended not_done moved =
-      meaning_let names calls s x first second (out_let s x first second is) locals p
+  let_not_done law x first second a q end result is a_is ended not_done moved =
+      ap (λ t. meaning names calls t locals p) is ∙ law names calls x first second locals p
       ∙ ap (λ m. then_do (inside 3 (meaning names calls m locals p)) (λ v next. inside (3 + trees_of_stm first) (meaning names calls second ((x, v) ∷ locals) next))) (sym a_is)
       ∙ ap (λ o. then_do (inside 3 o) (λ v next. inside (3 + trees_of_stm first) (meaning names calls second ((x, v) ∷ locals) next))) ended
       ∙ then_do_not_done end q 3 (λ v next. inside (3 + trees_of_stm first) (meaning names calls second ((x, v) ∷ locals) next)) not_done ∙ sym moved
 
   -- an `if` whose condition is true
-  pub if_true : (test : Expr) (first second : Stm) (a : Stm) (value : Value) (q : Progress) (end result : StmEnd) →
+  pub if_true : IfByParts → (test : Expr) (first second : Stm) (a : Stm) (value : Value) (q : Progress) (end result : StmEnd) →
       s ≡ IfStm test first second → a ≡ first → value ≡ value_of_expr test locals → is_true value ≡ true →
       meaning names calls a locals p ≡ outcome_of end q → outcome_of result q ≡ inside (2 + trees_of_expr test) (outcome_of end q) →
       meaning names calls s locals p ≡ outcome_of result q
-  if_true test first second a value q end result is a_is value_is holds ended moved =
-      meaning_if names calls s test first second (out_if s test first second is) locals p
+  if_true law test first second a value q end result is a_is value_is holds ended moved =
+      ap (λ t. meaning names calls t locals p) is ∙ law names calls test first second locals p
       ∙ ap (λ b. if b then inside (2 + trees_of_expr test) (meaning names calls first locals p) else inside (2 + trees_of_expr test + trees_of_stm first) (meaning names calls second locals p)) (ap is_true (sym value_is) ∙ holds)
       ∙ ap (λ m. inside (2 + trees_of_expr test) (meaning names calls m locals p)) (sym a_is) ∙ ap (inside (2 + trees_of_expr test)) ended ∙ sym moved
 
   -- an `if` whose condition is not true
-  pub if_false : (test : Expr) (first second : Stm) (a b : Stm) (value : Value) (q : Progress) (end result : StmEnd) →
+  pub if_false : IfByParts → (test : Expr) (first second : Stm) (a b : Stm) (value : Value) (q : Progress) (end result : StmEnd) →
       s ≡ IfStm test first second → a ≡ first → b ≡ second → value ≡ value_of_expr test locals → is_true value ≡ false →
       meaning names calls b locals p ≡ outcome_of end q → outcome_of result q ≡ inside (2 + trees_of_expr test + trees_of_stm a) (outcome_of end q) →
       meaning names calls s locals p ≡ outcome_of result q
-  if_false test first second a b value q end result is a_is b_is value_is fails ended moved =
-      meaning_if names calls s test first second (out_if s test first second is) locals p
+  if_false law test first second a b value q end result is a_is b_is value_is fails ended moved =
+      ap (λ t. meaning names calls t locals p) is ∙ law names calls test first second locals p
       ∙ ap (λ c. if c then inside (2 + trees_of_expr test) (meaning names calls first locals p) else inside (2 + trees_of_expr test + trees_of_stm first) (meaning names calls second locals p)) (ap is_true (sym value_is) ∙ fails)
       ∙ ap (λ m. inside (2 + trees_of_expr test + trees_of_stm m) (meaning names calls second locals p)) (sym a_is)
       ∙ ap (λ m. inside (2 + trees_of_expr test + trees_of_stm a) (meaning names calls m locals p)) (sym b_is)

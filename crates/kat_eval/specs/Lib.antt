@@ -1,3 +1,4 @@
+pub mod Before
 pub mod Cycle
 pub mod Locals
 pub mod Running

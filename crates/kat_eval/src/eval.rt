@@ -8,14 +8,14 @@ ghost use Rattle.kat_eval.specs.Locals.{locals_of};
 
 use crate::locals::{Locals, copy_of_name};
 use kat_syntax::Expr;
-use kat_value::{Value, is_number, operate_on_two};
+use kat_value::{Value, is_literal, operate_on_two};
 use std::alloc::{AllocError, Global};
 
 // A literal, or unit where it is no number of its type.
 fn literal(width: u64, number: u64) -> Value
     ensures { result ≡ (if is_number width number then Bits width number else Unit) }
 {
-    if width <= 64 && is_number(width as u32, number) {
+    if is_literal(width, number) {
         Value::Bits {
             width: width as u32,
             number,

@@ -1,10 +1,9 @@
 // What statements do. The interpreter runs the tree as it stands; where a failure stands is worked out only when
 // one comes, on the way back, so that a cycle that completes pays nothing for it.
 
-ghost use Rattle.std.specs.Prelude.{◌≡◌, ◌+◌, ◌<◌, ◌^◌, ℕ, IfOk};
-ghost use Rattle.kat_syntax.specs.Trees.{trees_of_expr, trees_of_stm};
-ghost use Rattle.kat_syntax.specs.Machine.{Progress};
-ghost use Rattle.kat_syntax.specs.Meaning.{meaning, inside, is_true, read_of, write_to, Calls};
+ghost use Rattle.std.specs.Prelude.{◌≡◌, ◌<◌, ◌^◌, IfOk};
+ghost use Rattle.kat_syntax.specs.Trees.{trees_of_stm};
+ghost use Rattle.kat_syntax.specs.Meaning.{meaning, is_true, read_of, write_to, Calls};
 ghost use Rattle.kat_syntax.specs.Cycle.{register_names};
 ghost use Rattle.kat_eval.specs.Locals.{locals_of};
 ghost use Rattle.kat_eval.specs.Running.{progress_of, outcome_of, IsBelow};
@@ -12,52 +11,10 @@ ghost use Rattle.kat_eval.specs.Running.{progress_of, outcome_of, IsBelow};
 use crate::eval::eval;
 use crate::locals::Locals;
 use crate::registers::{read_register, write_register};
-use crate::running::{Running, Site, StmEnd};
-use kat_syntax::{Checked, Expr, Stm, count_expr, count_stm};
+use crate::running::{Before, Running, Site, StmEnd};
+use kat_syntax::{Checked, Stm, statements_do_their_parts};
 use kat_value::Value;
 use std::alloc::{AllocError, Global};
-
-// The end of a part that stands behind so many trees of its form and behind a statement.
-fn behind_stm(end: StmEnd, head: u32, earlier: &Stm) -> StmEnd
-    requires { IsBelow (2 ^ 32) (head + trees_of_stm earlier.now) end }
-    ensures outcome { (p : Progress) → outcome_of result p ≡ inside (head + trees_of_stm earlier.now) (outcome_of end p) }
-    ensures within { (n : ℕ) → IsBelow n 0 end → IsBelow (head + trees_of_stm earlier.now + n) 0 result }
-{
-    match end {
-        StmEnd::Fail(Site::Here(tree)) => StmEnd::Fail(Site::Here(
-            head + count_stm(earlier) + tree,
-        )),
-        end => end,
-    }
-}
-
-// The same behind an expression.
-fn behind_expr(end: StmEnd, head: u32, earlier: &Expr) -> StmEnd
-    requires { IsBelow (2 ^ 32) (head + trees_of_expr earlier.now) end }
-    ensures outcome { (p : Progress) → outcome_of result p ≡ inside (head + trees_of_expr earlier.now) (outcome_of end p) }
-    ensures within { (n : ℕ) → IsBelow n 0 end → IsBelow (head + trees_of_expr earlier.now + n) 0 result }
-{
-    match end {
-        StmEnd::Fail(Site::Here(tree)) => StmEnd::Fail(Site::Here(
-            head + count_expr(earlier) + tree,
-        )),
-        end => end,
-    }
-}
-
-// The same behind an expression and a statement.
-fn behind_both(end: StmEnd, head: u32, test: &Expr, earlier: &Stm) -> StmEnd
-    requires { IsBelow (2 ^ 32) (head + trees_of_expr test.now + trees_of_stm earlier.now) end }
-    ensures outcome { (p : Progress) → outcome_of result p ≡ inside (head + trees_of_expr test.now + trees_of_stm earlier.now) (outcome_of end p) }
-    ensures within { (n : ℕ) → IsBelow n 0 end → IsBelow (head + trees_of_expr test.now + trees_of_stm earlier.now + n) 0 result }
-{
-    match end {
-        StmEnd::Fail(Site::Here(tree)) => {
-            StmEnd::Fail(Site::Here(head + count_expr(test) + count_stm(earlier) + tree))
-        }
-        end => end,
-    }
-}
 
 // Whether a condition's value is true.
 fn is_true(value: &Value) -> bool
@@ -81,6 +38,7 @@ pub fn exec(
         ≡ outcome_of end (progress_of running.new)) }
     ensures within { IfOk result (IsBelow (trees_of_stm stm.now) 0) }
 {
+    statements_do_their_parts();
     match stm {
         Stm::Ret(value) => Ok(StmEnd::Done(eval(alloc, value, locals)?)),
         Stm::Let { name, first, then } => {
@@ -89,7 +47,7 @@ pub fn exec(
                 StmEnd::Done(value) => {
                     let inner = locals.with(name, &value);
                     let end = exec(then.get(), alloc, machine, &inner, running)?;
-                    Ok(behind_stm(end, 3, first))
+                    Ok(end.behind(Before::First(first)))
                 }
                 StmEnd::Out => Ok(StmEnd::Out),
                 StmEnd::Fail(site) => Ok(StmEnd::Fail(site).inside(3)),
@@ -103,10 +61,13 @@ pub fn exec(
             let holds = eval(alloc, test, locals)?;
             if is_true(&holds) {
                 let end = exec(then.get(), alloc, machine, locals, running)?;
-                Ok(behind_expr(end, 2, test))
+                Ok(end.behind(Before::Test(test)))
             } else {
                 let end = exec(otherwise.get(), alloc, machine, locals, running)?;
-                Ok(behind_both(end, 2, test, then.get()))
+                Ok(end.behind(Before::Branch {
+                    test,
+                    then: then.get(),
+                }))
             }
         }
         Stm::Read(register) => {

@@ -4,9 +4,10 @@ ghost use Rattle.std.specs.Prelude.{◌≡◌, ◌+◌, ◌<◌, ◌^◌, ℕ};
 ghost use Rattle.kat_syntax.specs.Meaning.{inside};
 ghost use Rattle.kat_syntax.specs.Machine.{Progress};
 ghost use Rattle.kat_eval.specs.Running.{outcome_of, IsBelow};
+ghost use Rattle.kat_eval.specs.Before.{trees_before};
 
 use kat_state::State;
-use kat_syntax::Place;
+use kat_syntax::{Expr, Place, Stm, count_expr, count_stm};
 use kat_value::Value;
 use sqlite_items::Items;
 
@@ -35,6 +36,31 @@ pub enum StmEnd {
     Fail(Site),
 }
 
+/// What stands in a form before a part of it. Its trees are counted only where that part failed.
+#[derive(Clone, Copy, Drop)]
+pub enum Before<'a> {
+    /// In a `let`, before its second statement.
+    First(&'a Stm),
+    /// In an `if`, before its first branch.
+    Test(&'a Expr),
+    /// In an `if`, before its second branch.
+    Branch { test: &'a Expr, then: &'a Stm },
+}
+
+impl Before<'_> {
+    // How many trees stand before the part, the form itself among them.
+    fn trees(self) -> u32
+        requires { trees_before self < 2 ^ 32 }
+        ensures { result ≡ trees_before self.entry }
+    {
+        match self {
+            Before::First(first) => 3 + count_stm(first),
+            Before::Test(test) => 2 + count_expr(test),
+            Before::Branch { test, then } => 2 + count_expr(test) + count_stm(then),
+        }
+    }
+}
+
 impl StmEnd {
     /// The end of a part, as an end of the form in which it has the tree of this number.
     pub fn inside(self, at: u32) -> StmEnd
@@ -44,6 +70,17 @@ impl StmEnd {
     {
         match self {
             StmEnd::Fail(Site::Here(tree)) => StmEnd::Fail(Site::Here(at + tree)),
+            end => end,
+        }
+    }
+    /// The end of a part that stands behind others, as an end of the form.
+    pub fn behind(self, before: Before<'_>) -> StmEnd
+        requires { IsBelow (2 ^ 32) (trees_before before) self }
+        ensures outcome { (p : Progress) → outcome_of result p ≡ inside (trees_before before.entry) (outcome_of self p) }
+        ensures within { (n : ℕ) → IsBelow n 0 self → IsBelow (trees_before before.entry + n) 0 result }
+    {
+        match self {
+            StmEnd::Fail(Site::Here(tree)) => StmEnd::Fail(Site::Here(before.trees() + tree)),
             end => end,
         }
     }

@@ -14,8 +14,7 @@ use kat_io::{Sink, SinkError};
 use kat_state::State;
 use kat_syntax::{Checked, Place};
 use kat_text::Text;
-use kat_value::{Value, Values, copy_value, same_value};
-use sqlite_items::Items;
+use kat_value::{Value, Values, copy_value, copy_values, same_value};
 use std::alloc::{AllocError, Global};
 
 /// How a run ends.
@@ -30,17 +29,6 @@ pub enum RunEnd {
     /// The sink took no more; its count of faults rose.
     WriteFault,
     Memory,
-}
-
-// An equal list of values in memory of its own.
-fn copy_values(alloc: Global, values: &[Value]) -> Result<Values, AllocError>
-    ensures { IfOk result (λ vs. vs ≡ values.now) }
-{
-    let mut copies = Items::new(alloc);
-    for value in values {
-        copies.push(copy_value(alloc, value)?)?;
-    }
-    Ok(copies)
 }
 
 // Makes the values equal to the wanted ones, and copies those that differ.

@@ -1,4 +1,6 @@
 pub mod Firsts
+pub mod MeaningLaws
+pub mod TypingLaws
 pub mod Functions
 pub mod Registers
 pub mod TextNumbers

@@ -16,7 +16,7 @@ use Rattle.kat_syntax.specs.FirstForm.{is_first_stm, is_first_decl, are_first_de
 use Rattle.kat_syntax.specs.Formed.{is_name, is_formed_stm}
 use Rattle.kat_syntax.specs.WellFormed.{IsDecl}
 use Rattle.kat_syntax.specs.Typing.{in_decl, Fault, known_of_stm, declared_by, decl_faults, inner_faults}
-use Rattle.kat_syntax.specs.TypingLaws.{empty_first, empty_second, no_inner_faults, few_declarations}
+use Rattle.kat_syntax.proofs.TypingLaws.{empty_first, empty_second, no_inner_faults, few_declarations}
 use Rattle.kat_syntax.specs.Machine.{Progress}
 use Rattle.kat_syntax.specs.Meaning.{Locals, Here, There, Outcome, Done, Out, Fail, inside, Calls, meaning}
 use Rattle.kat_syntax.specs.Cycle.{register_names, bound, elsewhere, body_of, call_of, as_cycle}

@@ -19,7 +19,7 @@ use Rattle.kat_syntax.specs.Tables.{Name}
 use Rattle.kat_syntax.specs.FirstForm.{is_first_op, expr_first, is_first_expr}
 use Rattle.kat_syntax.specs.Formed.{every, arity_of, is_written, expr_formed, is_formed_expr}
 use Rattle.kat_syntax.specs.Typing.{unless, inside, Scope, local_type, Known, is_width, takes, fixed_behind, fixed_by, type_of_op, args_faults, expr_type, expr_faults, expr_known, known_of_expr}
-use Rattle.kat_syntax.specs.TypingLaws.{empty_first, empty_second}
+use Rattle.kat_syntax.proofs.TypingLaws.{empty_first, empty_second}
 use Rattle.kat_syntax.specs.Meaning.{Locals, value_of_name, expr_value, value_of_expr}
 use Rattle.kat_syntax.specs.Soundness.{IsOfKnown, AreOfScope, ExpressionsAreSound}
 use Rattle.kat_syntax.proofs.SoundValues.{holds_unless, clean_inside, unit_known, number_known, numbers_are, two_sound}

@@ -11,7 +11,7 @@ use Rattle.kat_syntax.specs.Trees.{trees_of_expr, trees_of_stm}
 use Rattle.kat_syntax.specs.FirstForm.{is_first_expr, stm_first, is_first_stm}
 use Rattle.kat_syntax.specs.Machine.{Progress}
 use Rattle.kat_syntax.specs.Meaning.{Locals, Here, There, Outcome, Done, Out, Fail, then_do, inside, is_true, Calls, Part, part_of, meaning, value_of_expr}
-use Rattle.kat_syntax.specs.MeaningLaws.{whole, trees_of_part}
+use Rattle.kat_syntax.proofs.MeaningLaws.{whole, trees_of_part}
 
 -- a failure stands at a tree of a form that has n trees
 abbrev pub FailsBelow : ℕ → Outcome → Type 0

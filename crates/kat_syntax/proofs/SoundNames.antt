@@ -20,7 +20,7 @@ use Rattle.kat_syntax.specs.Tables.{Name}
 use Rattle.kat_syntax.specs.Written.{word, tree_of_type, word_of_register_kind, tree_of_decl}
 use Rattle.kat_syntax.specs.WellFormed.{IsDecl}
 use Rattle.kat_syntax.specs.Cycle.{register_names}
-use Rattle.kat_syntax.specs.TypingLaws.{registers_differ}
+use Rattle.kat_syntax.proofs.TypingLaws.{registers_differ}
 use Rattle.kat_syntax.specs.TextLaw.{IsWord}
 use Rattle.kat_syntax.specs.Soundness.{RegistersAreNamed}
 use Rattle.kat_syntax.proofs.Writable.{tokens_of-Atom, tokens_of-List}

@@ -20,7 +20,7 @@ use Rattle.kat_syntax.specs.Tables.{Name, RegisterDecl, registers_of}
 use Rattle.kat_syntax.specs.FirstForm.{is_first_decl, are_first_decls}
 use Rattle.kat_syntax.specs.Runnable.{IsFirstForm}
 use Rattle.kat_syntax.specs.Typing.{agree, is_width, type_of_name, faults_of_name, in_decl, decl_faults, inner_faults}
-use Rattle.kat_syntax.specs.TypingLaws.{empty_first, empty_second, held, no_inner_faults}
+use Rattle.kat_syntax.proofs.TypingLaws.{empty_first, empty_second, held, no_inner_faults}
 use Rattle.kat_syntax.specs.Machine.{MachineState}
 use Rattle.kat_syntax.specs.Meaning.{set_register}
 use Rattle.kat_syntax.specs.Start.{first_value_of, start_of}

@@ -15,12 +15,11 @@ use Rattle.kat_syntax.specs.Tables.{Name, RegisterDecl, registers_of}
 use Rattle.kat_syntax.specs.Machine.{MachineState}
 use Rattle.kat_syntax.specs.Cycle.{CycleOutcome, Completed, OutOfCalls, FailedAt, cycle_of}
 use Rattle.kat_syntax.specs.Run.{Event, Cycle, OutsideWrite, OutsideRegister, with_outside, outside_from, poked_register, poked, Run, after_cycle, run_from}
-use Rattle.kat_syntax.specs.TextLaw.{AreOfTypes, IsStateOf, IsOfMachine}
+use Rattle.kat_syntax.specs.TextLaw.{AreOfTypes, IsStateOf, IsOfMachine, TextTellsRun, BeginningTellsRun}
 use Rattle.kat_syntax.specs.Soundness.{CycleKeepsTypes, CanRun, Setup, run_in, OutsideWritesAreSound, RunsAreSound, TextTellsItsRun, BeginningTellsItsRun}
 use Rattle.kat_syntax.proofs.SoundValues.{number_has_type}
 use Rattle.kat_syntax.proofs.SoundCycle.{cycles_sound}
 use Rattle.kat_syntax.proofs.SoundNames.{registers_named}
-use Rattle.kat_syntax.proofs.TextPieces.{text_tells_run, beginning_tells_run}
 
 -- an outside register, where the first register has the position k: a number that fits may be written to it
 abbrev MayWrite : ℕ → List RegisterDecl → List Value → OutsideRegister → Type 0
@@ -110,10 +109,10 @@ runs_sound spec n start events can is few = runs_from spec n 0 start events can 
 of_machine : (spec : Spec) (setup : Setup spec) → CanRun spec → IsOfMachine spec (run_in spec setup)
 of_machine spec setup can = runs_sound spec setup.calls setup.start setup.events can setup.is_state setup.few
 
-pub text_tells_its_run : TextTellsItsRun
-text_tells_its_run spec first second can e =
-    text_tells_run spec (run_in spec first) (run_in spec second) (registers_named spec can) (of_machine spec first can) (of_machine spec second can) e
+pub text_tells_its_run : TextTellsRun → TextTellsItsRun
+text_tells_its_run tells spec first second can e =
+    tells spec (run_in spec first) (run_in spec second) (registers_named spec can) (of_machine spec first can) (of_machine spec second can) e
 
-pub beginning_tells_its_run : BeginningTellsItsRun
-beginning_tells_its_run spec first second more other can e =
-    beginning_tells_run spec (run_in spec first) (run_in spec second) more other (registers_named spec can) (of_machine spec first can) (of_machine spec second can) e
+pub beginning_tells_its_run : BeginningTellsRun → BeginningTellsItsRun
+beginning_tells_its_run tells spec first second more other can e =
+    tells spec (run_in spec first) (run_in spec second) more other (registers_named spec can) (of_machine spec first can) (of_machine spec second can) e

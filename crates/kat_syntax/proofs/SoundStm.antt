@@ -19,10 +19,10 @@ use Rattle.kat_syntax.specs.Trees.{trees_of_expr}
 use Rattle.kat_syntax.specs.FirstForm.{is_first_expr, stm_first, is_first_stm}
 use Rattle.kat_syntax.specs.Formed.{is_name, is_formed_expr, stm_formed, is_formed_stm}
 use Rattle.kat_syntax.specs.Typing.{unless, inside as faults_inside, Scope, Known, agree, joined, is_in_scope, register_type, known_of_expr, declared_by, stm_type, stm_faults, stm_known, known_of_stm}
-use Rattle.kat_syntax.specs.TypingLaws.{empty_first, empty_second}
+use Rattle.kat_syntax.proofs.TypingLaws.{empty_first, empty_second}
 use Rattle.kat_syntax.specs.Machine.{Progress}
 use Rattle.kat_syntax.specs.Meaning.{Locals, Here, There, Outcome, Done, Out, Fail, then_do, inside, is_true, Calls, Part, does_of, part_of, value_of_expr}
-use Rattle.kat_syntax.specs.MeaningLaws.{whole}
+use Rattle.kat_syntax.proofs.MeaningLaws.{whole}
 use Rattle.kat_syntax.specs.Cycle.{register_names}
 use Rattle.kat_syntax.specs.TextLaw.{IsStateOf}
 use Rattle.kat_syntax.specs.Soundness.{IsOfKnown, AreOfScope, KeepsTypes, StatementsAreSound}

@@ -6,8 +6,7 @@ use Rattle.std.proofs.lemmas.List.{append_cancel_left}
 use Rattle.std.proofs.lemmas.List.Elements.{All-head, All-tail}
 use Rattle.kat_names.specs.Names.{AllDiffer}
 use Rattle.kat_value.specs.declared.value.Value.{Value}
-use Rattle.kat_value.specs.Equality.{value_eq}
-use Rattle.kat_value.proofs.EqualityLemmas.{value_eq-told}
+use Rattle.kat_value.specs.Equality.{value_eq, TestsEquality}
 use Rattle.kat_syntax.specs.declared.decl.TypeName.{TypeName}
 use Rattle.kat_syntax.specs.Tables.{Name, RegisterDecl}
 use Rattle.kat_syntax.specs.StateText.{text_of_value, register_line, all_lines, changed_lines}
@@ -97,14 +96,14 @@ no_values [] p = refl
 no_values (v ∷ vs) p = absurd p
 
 -- the lines of a later boundary tell the values, where those before are known
-pub changed_told : (registers : List RegisterDecl) (before us vs : List Value) (r s : List ℕ) → All IsWord (names_of registers) → AllDiffer (names_of registers) →
+pub changed_told : TestsEquality → (registers : List RegisterDecl) (before us vs : List Value) (r s : List ℕ) → All IsWord (names_of registers) → AllDiffer (names_of registers) →
     AreOfTypes registers before → AreOfTypes registers us → AreOfTypes registers vs → get_or r 0 0 ≢ 114 → get_or s 0 0 ≢ 114 →
     changed_lines (names_of registers) before us ++ r ≡ changed_lines (names_of registers) before vs ++ s → (us ≡ vs) × (r ≡ s)
-changed_told [] before us vs r s words differ o p q f g e = (no_values us p ∙ sym (no_values vs q), e)
-changed_told (register ∷ registers) [] us vs r s words differ o p q f g e = absurd o
-changed_told (register ∷ registers) (old ∷ before) [] vs r s words differ o p q f g e = absurd p
-changed_told (register ∷ registers) (old ∷ before) (u ∷ us) [] r s words differ o p q f g e = absurd q
-changed_told (register ∷ registers) (old ∷ before) (u ∷ us) (v ∷ vs) r s words differ o p q f g e =
+changed_told tests [] before us vs r s words differ o p q f g e = (no_values us p ∙ sym (no_values vs q), e)
+changed_told tests (register ∷ registers) [] us vs r s words differ o p q f g e = absurd o
+changed_told tests (register ∷ registers) (old ∷ before) [] vs r s words differ o p q f g e = absurd p
+changed_told tests (register ∷ registers) (old ∷ before) (u ∷ us) [] r s words differ o p q f g e = absurd q
+changed_told tests (register ∷ registers) (old ∷ before) (u ∷ us) (v ∷ vs) r s words differ o p q f g e =
     let name : Name = register.name in
     let names : List Name = names_of registers in
     let left : List ℕ = changed_lines names before us in
@@ -113,12 +112,12 @@ changed_told (register ∷ registers) (old ∷ before) (u ∷ us) (v ∷ vs) r s
     let others : All IsWord names = All-tail IsWord name names words in
     let apart : All (λ other. name ≢ other) names = first_differs name names differ in
     let below : left ++ r ≡ right ++ s → (us ≡ vs) × (r ≡ s) =
-    changed_told registers before us vs r s others (rest_differ name names differ) o.1 p.1 q.1 f g in
+    changed_told tests registers before us vs r s others (rest_differ name names differ) o.1 p.1 q.1 f g in
     elim (cases_Bool (value_eq old u)) [
       | inl a ↦ elim (cases_Bool (value_eq old v)) [
         | inl b ↦
             let rest = below (sym (hidden name old u left r a) ∙ e ∙ hidden name old v right s b) in
-            let head : u ≡ v = sym (value_eq-told old u a) ∙ value_eq-told old v b in
+            let head : u ≡ v = sym ((tests old u).0 a) ∙ (tests old v).0 b in
             let tail : us ≡ vs = rest.0 in
             (cc, rest.1)
         | inr b ↦

@@ -6,6 +6,7 @@ use Rattle.std.specs.Fmt.{decimal}
 use Rattle.std.proofs.lemmas.List.{append_cancel_left}
 use Rattle.std.proofs.lemmas.List.Elements.{All-head, All-tail}
 use Rattle.kat_value.specs.declared.value.Value.{Value}
+use Rattle.kat_value.specs.Equality.{TestsEquality}
 use Rattle.kat_syntax.specs.declared.place.Place.{Place}
 use Rattle.kat_syntax.specs.declared.decl.Spec.{Spec}
 use Rattle.kat_syntax.specs.Tables.{Name, registers_of}
@@ -62,7 +63,7 @@ same_state spec a b p q registers =
     let state_of : List Value → List ℕ → MachineState = λ registers cells. record { registers = registers; cells = cells } in
     ap (λ values. state_of values a.cells) registers ∙ ap (state_of b.registers) (p.cells ∙ sym q.cells)
 
-module _ (spec : Spec) (named : HasRegisterNames spec) where
+module _ (tests : TestsEquality) (spec : Spec) (named : HasRegisterNames spec) where
   -- the later boundaries are told, where the state before is known
   later_told : (k : ℕ) (before : MachineState) (states others : List MachineState) (r s : List ℕ) →
       IsStateOf spec before → All (IsStateOf spec) states → All (IsStateOf spec) others →
@@ -81,7 +82,7 @@ module _ (spec : Spec) (named : HasRegisterNames spec) where
       let second : IsStateOf spec other = All-head (IsStateOf spec) other others q in
       let lines = append_cancel_left (codes "at " ++ decimal k ++ newline) (left ++ (rest state states ++ r)) (right ++ (rest other others ++ s))
       (sym (piece_parts k left (rest state states) r) ∙ e ∙ piece_parts k right (rest other others) s) in
-      let parts = changed_told (registers_of spec.decls) before.registers state.registers other.registers (rest state states ++ r) (rest other others ++ s)
+      let parts = changed_told tests (registers_of spec.decls) before.registers state.registers other.registers (rest state states ++ r) (rest other others ++ s)
       named.words named.distinct o.registers first.registers second.registers
       (later_begins names (k + 1) state states r f') (later_begins names (k + 1) other others s g') lines in
       let same : state ≡ other = same_state spec state other first second parts.0 in
@@ -131,10 +132,10 @@ module _ (spec : Spec) (named : HasRegisterNames spec) where
       let run_with : List MachineState → RunEnd → Run = λ boundaries end. record { boundaries = boundaries; end = end } in
       ap (λ states. run_with states a.end) boundaries ∙ ap (run_with b.boundaries) (end_told (last a) a.end b.end r s p.end q.end ends)
 
-pub beginning_tells_run : BeginningTellsRun
-beginning_tells_run spec a b r s named p q e =
-    let same : a ≡ b = run_told spec named a b r s p q e in
+pub beginning_tells_run : TestsEquality → BeginningTellsRun
+beginning_tells_run tests spec a b r s named p q e =
+    let same : a ≡ b = run_told tests spec named a b r s p q e in
     (same, append_cancel_left (state_text_of spec a) r s (e ∙ ap (λ run. state_text_of spec run ++ s) (sym same)))
 
-pub text_tells_run : TextTellsRun
-text_tells_run spec a b named p q e = run_told spec named a b [] [] p q (ap (λ text. text ++ []) e)
+pub text_tells_run : TestsEquality → TextTellsRun
+text_tells_run tests spec a b named p q e = run_told tests spec named a b [] [] p q (ap (λ text. text ++ []) e)

@@ -12,9 +12,8 @@ pub mod Checked
 pub mod Run
 pub mod Start
 pub mod StateText
-pub mod MeaningLaws
+pub mod MeaningByParts
 pub mod TextLaw
 pub mod Soundness
 pub mod Typing
 pub mod Runnable
-pub mod TypingLaws

@@ -8,7 +8,7 @@ use Rattle.kat_value.specs.declared.value.Value.TheVariants.{Unit as UnitValue, 
 use Rattle.kat_value.specs.Operations.{is_number, value_of_op}
 use Rattle.kat_syntax.specs.declared.place.Place.{Place}
 use Rattle.kat_syntax.specs.declared.expr.Expr.{Expr}
-use Rattle.kat_syntax.specs.declared.expr.Expr.TheOpen.{Expr-F, Name as Named, Bits, Apply}
+use Rattle.kat_syntax.specs.declared.expr.Expr.TheOpen.{Expr-F, Name as Named, Unit, Bits, Apply}
 use Rattle.kat_syntax.specs.declared.expr.Expr.TheFolds.{fold-Expr}
 use Rattle.kat_syntax.specs.declared.stm.Stm.{Stm}
 use Rattle.kat_syntax.specs.declared.stm.Stm.TheOpen.{Stm-F, Ret, Let, If, Read, Write, Fail as FailStm}
@@ -29,6 +29,7 @@ value_of_name (local ∷ locals) x = if bytes_eq local.0 x then local.1 else val
 -- one layer of an expression, with the value of each part in its place. The forms that no machine runs yet give unit
 abbrev pub expr_value : Expr-F (Locals → Value) → Locals → Value
 expr_value (Named x) locals = value_of_name locals x
+expr_value Unit locals = UnitValue
 expr_value (Bits width number) locals = if is_number width number then Number width number else UnitValue
 expr_value (Apply op args) locals = unwrap_or (value_of_op op (map (λ arg. arg locals) args)) UnitValue
 expr_value _ locals = UnitValue

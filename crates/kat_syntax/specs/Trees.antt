@@ -1,5 +1,5 @@
 -- How many trees a form has, lists and atoms alike. A part's place in its declaration is counted by these.
-use Rattle.std.specs.Prelude.{ℕ, ◌+◌, ◌-◌, ◌^◌, min, List, length, sum, sum_by}
+use Rattle.std.specs.Prelude.{ℕ, ◌+◌, ◌-◌, ◌^◌, min, List, length, map, sum, sum_by}
 use Rattle.kat_value.specs.declared.op.Op.{Op}
 use Rattle.kat_value.specs.declared.op.Op.TheVariants.{Slice, Zext, Sext, Get as GetOp}
 use Rattle.kat_syntax.specs.declared.expr.Expr.{Expr}
@@ -10,6 +10,7 @@ use Rattle.kat_syntax.specs.declared.stm.CaseArm.{CaseArm}
 use Rattle.kat_syntax.specs.declared.stm.MatchArm.{MatchArm}
 use Rattle.kat_syntax.specs.declared.stm.Stm.TheOpen.{Stm-F, Ret, Let, Seq, If, Case, Match, Read, Write, Load, Store, Call, Check, Fail, Open, Close, Lemma}
 use Rattle.kat_syntax.specs.declared.stm.Stm.TheFolds.{fold-Stm}
+use Rattle.kat_syntax.specs.declared.stm.Stm.TheShapes.{former-Stm-Case-1-at-2 as case_arm, former-Stm-Match-1-at-3 as match_arm}
 use Rattle.kat_syntax.specs.declared.assertion.Assertion.{Assertion}
 use Rattle.kat_syntax.specs.declared.assertion.Assertion.TheOpen as a
 use Rattle.kat_syntax.specs.declared.assertion.Assertion.TheFolds.{fold-Assertion}
@@ -88,6 +89,18 @@ stm_trees (Lemma l args) = 3 + trees_of_exprs args
 
 abbrev pub trees_of_stm : Stm → ℕ
 trees_of_stm = fold-Stm ℕ stm_trees
+
+-- of statements side by side
+abbrev pub trees_of_stms : List Stm → ℕ
+trees_of_stms stms = sum (map trees_of_stm stms)
+
+-- of the arms of a `case`
+abbrev pub trees_of_case_arms : List (CaseArm Stm) → ℕ
+trees_of_case_arms arms = sum_by trees_of_case_arm (map (case_arm.map Stm ℕ trees_of_stm) arms)
+
+-- of the arms of a `match`
+abbrev pub trees_of_match_arms : List (MatchArm Stm) → ℕ
+trees_of_match_arms arms = sum_by trees_of_match_arm (map (match_arm.map Stm ℕ trees_of_stm) arms)
 
 -- `(bits n)` is a list of two atoms
 abbrev pub trees_of_type : TypeName → ℕ

@@ -3,12 +3,12 @@
 // greatest u32, which no declaration comes near.
 
 ghost use Rattle.std.specs.Prelude.{◌≡◌};
-ghost use Rattle.kat_syntax.specs.Trees.{capped, numbers_of_op, trees_of_expr, trees_of_exprs, trees_of_stm, trees_of_type, trees_of_params, trees_of_assertion, trees_of_phase, trees_of_when, trees_of_decl};
+ghost use Rattle.kat_syntax.specs.Trees.{capped, numbers_of_op, trees_of_expr, trees_of_exprs, trees_of_stm, trees_of_stms, trees_of_case_arms, trees_of_match_arms, trees_of_type, trees_of_params, trees_of_assertion, trees_of_phase, trees_of_when, trees_of_decl};
 
 use crate::assertion::Assertion;
 use crate::decl::{DeclForm, Param, Phase, TypeName, When};
 use crate::expr::Expr;
-use crate::stm::Stm;
+use crate::stm::{CaseArm, MatchArm, Stm};
 use kat_value::Op;
 
 fn count_numbers(op: Op) -> u32
@@ -48,8 +48,8 @@ pub fn count_expr(expr: &Expr) -> u32
     }
 }
 
-/// The trees of expressions side by side.
-pub fn count_exprs(exprs: &[Expr]) -> u32
+// The trees of expressions side by side.
+fn count_exprs(exprs: &[Expr]) -> u32
     ensures { result ≡ capped (trees_of_exprs exprs.now) }
 {
     let mut total: u32 = 0;
@@ -60,6 +60,7 @@ pub fn count_exprs(exprs: &[Expr]) -> u32
 }
 
 /// The trees of a statement.
+#[cycle(statements)]
 pub fn count_stm(stm: &Stm) -> u32
     ensures { result ≡ capped (trees_of_stm stm.now) }
 {
@@ -70,13 +71,7 @@ pub fn count_stm(stm: &Stm) -> u32
         Stm::Let { first, then, .. } => count_stm(first.get())
             .saturating_add(count_stm(then.get()))
             .saturating_add(3),
-        Stm::Seq(parts) => {
-            let mut total: u32 = 2;
-            for part in parts.as_slice() {
-                total = total.saturating_add(count_stm(part));
-            }
-            total
-        }
+        Stm::Seq(parts) => count_stms(parts.as_slice()).saturating_add(2),
         Stm::If {
             test,
             then,
@@ -85,20 +80,12 @@ pub fn count_stm(stm: &Stm) -> u32
             .saturating_add(count_stm(then.get()))
             .saturating_add(count_stm(otherwise.get()))
             .saturating_add(2),
-        Stm::Case { value, arms } => {
-            let mut total = count_expr(value).saturating_add(2);
-            for arm in arms.as_slice() {
-                total = total.saturating_add(count_stm(&arm.body)).saturating_add(2);
-            }
-            total
-        }
-        Stm::Match { value, arms } => {
-            let mut total = count_expr(value).saturating_add(2);
-            for arm in arms.as_slice() {
-                total = total.saturating_add(count_stm(&arm.body)).saturating_add(3);
-            }
-            total
-        }
+        Stm::Case { value, arms } => count_expr(value)
+            .saturating_add(count_case_arms(arms.as_slice()))
+            .saturating_add(2),
+        Stm::Match { value, arms } => count_expr(value)
+            .saturating_add(count_match_arms(arms.as_slice()))
+            .saturating_add(2),
         Stm::Read(_) => 3,
         Stm::Write { value, .. } => count_expr(value).saturating_add(3),
         Stm::Store { index, value } => count_expr(index)
@@ -112,8 +99,44 @@ pub fn count_stm(stm: &Stm) -> u32
     }
 }
 
+// The trees of statements side by side.
+#[cycle(statements)]
+fn count_stms(stms: &[Stm]) -> u32
+    ensures { result ≡ capped (trees_of_stms stms.now) }
+{
+    let mut total: u32 = 0;
+    for stm in stms {
+        total = total.saturating_add(count_stm(stm));
+    }
+    total
+}
+
+// The trees of the arms of a `case`.
+#[cycle(statements)]
+fn count_case_arms(arms: &[CaseArm<Stm>]) -> u32
+    ensures { result ≡ capped (trees_of_case_arms arms.now) }
+{
+    let mut total: u32 = 0;
+    for arm in arms {
+        total = total.saturating_add(count_stm(&arm.body)).saturating_add(2);
+    }
+    total
+}
+
+// The trees of the arms of a `match`.
+#[cycle(statements)]
+fn count_match_arms(arms: &[MatchArm<Stm>]) -> u32
+    ensures { result ≡ capped (trees_of_match_arms arms.now) }
+{
+    let mut total: u32 = 0;
+    for arm in arms {
+        total = total.saturating_add(count_stm(&arm.body)).saturating_add(3);
+    }
+    total
+}
+
 /// The trees of a type.
-pub fn count_type(ty: &TypeName) -> u32
+pub(crate) fn count_type(ty: &TypeName) -> u32
     ensures { result ≡ trees_of_type ty.now }
 {
     match ty {
@@ -123,7 +146,7 @@ pub fn count_type(ty: &TypeName) -> u32
 }
 
 /// The trees of a list of parameters, the list itself among them.
-pub fn count_params(params: &[Param]) -> u32
+pub(crate) fn count_params(params: &[Param]) -> u32
     ensures { result ≡ capped (trees_of_params params.now) }
 {
     let mut total: u32 = 1;
@@ -134,7 +157,7 @@ pub fn count_params(params: &[Param]) -> u32
 }
 
 /// The trees of an assertion.
-pub fn count_assertion(assertion: &Assertion) -> u32
+pub(crate) fn count_assertion(assertion: &Assertion) -> u32
     ensures { result ≡ capped (trees_of_assertion assertion.now) }
 {
     match assertion {
@@ -167,8 +190,8 @@ pub fn count_assertion(assertion: &Assertion) -> u32
     }
 }
 
-/// The trees of a phase.
-pub fn count_phase(phase: &Phase) -> u32
+// The trees of a phase.
+fn count_phase(phase: &Phase) -> u32
     ensures { result ≡ trees_of_phase phase.now }
 {
     match phase {
@@ -178,7 +201,7 @@ pub fn count_phase(phase: &Phase) -> u32
 }
 
 /// The trees of a case of the dispatch.
-pub fn count_when(case: &When) -> u32
+pub(crate) fn count_when(case: &When) -> u32
     ensures { result ≡ capped (trees_of_when case.now) }
 {
     count_expr(&case.test)

@@ -18,21 +18,19 @@ mod written;
 
 pub use assertion::Assertion;
 pub use checked::{Checked, StepFunction};
-pub use count::{
-    count_assertion, count_expr, count_exprs, count_params, count_phase, count_stm, count_type,
-    count_when,
-};
+pub use count::{count_expr, count_stm};
 pub use decl::{
     Block, CellsKind, Decl, DeclForm, Param, Phase, RegisterKind, Spec, TypeName, When,
 };
 pub use expr::Expr;
 pub use kat_value::Op;
-pub use law::{text_tells_its_end, text_tells_states};
+pub use law::{statements_do_their_parts, text_tells_its_end, text_tells_states};
 pub use place::Place;
 pub use soundness::{
     cycles_are_sound, expressions_are_sound, registers_are_named, runs_are_sound,
-    starts_are_states, statements_are_sound, text_tells_its_run,
+    starts_are_states, statements_are_sound, text_tells_its_run, typed_specifications_have_tables,
 };
 pub use stm::{CaseArm, MatchArm, Stm};
+pub use tables::is_function;
 pub use wanted::Wanted;
 pub use written::{one_form, one_reading, places_are_of_the_tree, specifications_can_be_written};

@@ -1,6 +1,10 @@
 // What a specification without faults of typing never meets.
 
+ghost use Rattle.kat_syntax.specs.declared.decl.Spec.{Spec};
+ghost use Rattle.kat_syntax.specs.Runnable.{IsTyped, IsFirstForm, HasDistinctRegisters, HasStepFunction};
 ghost use Rattle.kat_syntax.specs.Soundness.{ExpressionsAreSound, StatementsAreSound, CyclesAreSound, OutsideWritesAreSound, StartsAreStates, RegistersAreNamed, RunsAreSound, TextTellsItsRun, BeginningTellsItsRun};
+
+use crate::law::{text_tells_its_end, text_tells_states};
 
 /// An expression without a fault of typing has a value of its type. This is said of the expressions that a machine can be
 /// run of, each operation having its count of arguments, and of locals that are what their scope says: the same names,
@@ -40,6 +44,15 @@ pub fn registers_are_named()
     ensures { RegistersAreNamed }
 {}
 
+/// The registers of a specification without faults of typing have distinct names. One that can be run has at
+/// most 4,096 declarations, a step declaration, and the function that it names, which has no parameters. The function
+/// does nothing: its contract is the law.
+#[tactic(auto, using(crate::proofs::TypingLaws::registers_are_distinct, crate::proofs::TypingLaws::step_function_is_there))]
+pub fn typed_specifications_have_tables()
+    ensures registers { (spec : Spec) → IsTyped spec → HasDistinctRegisters spec }
+    ensures step { (spec : Spec) → IsFirstForm spec → HasStepFunction spec }
+{}
+
 /// The state in which every register has the first value of its type is a state of the machine, of a specification of the
 /// first form without faults. The function does nothing: its contract is the law.
 #[tactic(auto, using(crate::proofs::SoundRegisters::start_is_state))]
@@ -62,8 +75,10 @@ pub fn runs_are_sound()
 /// fewer than 2^64. And where one text begins with the texts of two runs, they are the same, so that an output that was
 /// cut off is the output of no run of that machine. Unlike [`crate::text_tells_states`], this supposes nothing of the
 /// states that a run passes through, nor of its end. The function does nothing: its contract is the law.
-#[tactic(auto, using(crate::proofs::SoundRun::text_tells_its_run, crate::proofs::SoundRun::beginning_tells_its_run))]
 pub fn text_tells_its_run()
     ensures whole { TextTellsItsRun }
     ensures beginning { BeginningTellsItsRun }
-{}
+{
+    text_tells_states();
+    text_tells_its_end();
+}

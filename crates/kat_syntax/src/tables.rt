@@ -66,8 +66,8 @@ fn step_name(decls: &[Decl]) -> Option<&Text>
     None
 }
 
-// Whether a declaration is a function of this name.
-fn is_function(decl: &Decl, name: &Text) -> bool
+/// Whether a declaration is a function of this name.
+pub fn is_function(decl: &Decl, name: &Text) -> bool
     ensures { result ≡ is_function name.now decl.now }
 {
     match decl.form() {

@@ -10,13 +10,14 @@ use Rattle.kat_names.specs.declared.names.NameError.{NameError}
 use Rattle.kat_names.specs.declared.names.NameError.TheVariants.{Twice}
 use Rattle.std.proofs.lemmas.List.{append-nil, drop_all}
 use Rattle.kat_value.specs.declared.types.Ty.{Ty}
+use Rattle.std.proofs.lemmas.Bool.{or_parts, or_from}
 use Rattle.std.proofs.lemmas.Bool.Decides.{nat_tests}
+use Rattle.std.proofs.lemmas.List.Folds.{list_any-append}
 use Rattle.kat_syntax.specs.declared.decl.DeclForm.{DeclForm}
 use Rattle.kat_syntax.specs.declared.decl.DeclForm.TheVariants.{Register, Fun}
 use Rattle.kat_syntax.specs.Tables.{Name, RegisterDecl, registers_of}
 use Rattle.kat_syntax.specs.Cycle.{register_names}
 use Rattle.kat_syntax.specs.Typing.{Declared, DeclaredName, TypeFault, in_decl, unless, is_among, names_from, taken_faults, type_of_name, declared_by}
-use Rattle.kat_syntax.specs.TypingLaws.{Within, within_name, within_both}
 use Rattle.kat_typing.specs.Clean.{when, is_nil}
 use Rattle.kat_typing.specs.Declares.{nothing_declared, name_added, with_decl, with_decls}
 use Rattle.kat_typing.proofs.Clean.{rest_is}
@@ -148,6 +149,21 @@ taken_step : (k : ℕ) (taken : Bool) (more : List TypeFault) →
     is_nil (in_decl k (unless (not taken) 2 1) ++ more) ≡ not taken && is_nil more
 taken_step k true more = refl
 taken_step k false more = refl
+
+-- each of the first names is among the second
+abbrev Within : List Name → List Name → Type 0
+Within some all = (y : Name) → is_among all y ≡ false → is_among some y ≡ false
+
+among_neither : (names : List Name) (x y : Name) → is_among (names ++ x ∷ []) y ≡ false → (is_among names y ≡ false) × (is_among (x ∷ []) y ≡ false)
+among_neither names x y none = or_parts _ _ (sym (list_any-append (bytes_eq y) names (x ∷ [])) ∙ none)
+
+within_name : (some all : List Name) (x : Name) → Within some all → Within some (all ++ x ∷ [])
+within_name some all x within y none = within y (among_neither all x y none).0
+
+within_both : (some all : List Name) (x : Name) → Within some all → Within (some ++ x ∷ []) (all ++ x ∷ [])
+within_both some all x within y none =
+    let neither = among_neither all x y none in
+    list_any-append (bytes_eq y) some (x ∷ []) ∙ or_from _ _ (within y neither.0) neither.1
 
 -- declarations extend what is declared exactly where no name is taken
 with_decls_from : (k : ℕ) (declared : Declared) (decls : List DeclForm) → Within declared.registers declared.names →

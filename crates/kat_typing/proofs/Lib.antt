@@ -1,5 +1,4 @@
 pub mod Clean
 pub mod Declares
 pub mod Examples
-pub mod Laws
 pub mod Statements

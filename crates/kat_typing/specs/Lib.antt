@@ -2,4 +2,3 @@ pub mod Clean
 pub mod Declares
 pub mod Scopes
 pub mod FirstForm
-pub mod Laws

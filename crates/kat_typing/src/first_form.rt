@@ -1,7 +1,7 @@
 // Whether a specification can be run.
 
 ghost use Rattle.std.specs.Prelude.{◌≡◌, [], is_some, false, IsTrue, IsFalse, IfOk};
-ghost use Rattle.kat_syntax.specs.Tables.{is_function, function_from};
+ghost use Rattle.kat_syntax.specs.Tables.{function_from};
 ghost use Rattle.kat_syntax.specs.Typing.{Declared as Names, declared_by, decl_faults, inner_faults, step_faults, faults_of_name};
 ghost use Rattle.kat_syntax.specs.Runnable.{IsFirstForm};
 ghost use Rattle.kat_typing.specs.Clean.{is_nil};
@@ -12,7 +12,7 @@ use crate::forms::are_first_decls;
 use crate::scope::Scope;
 use crate::stm::type_of_stm;
 use crate::types::{is_width, want};
-use kat_syntax::{Decl, DeclForm, Spec, Stm, TypeName};
+use kat_syntax::{Decl, DeclForm, Spec, Stm, TypeName, is_function};
 use kat_text::Text;
 use kat_value::Ty;
 use std::alloc::{AllocError, Global};
@@ -40,20 +40,11 @@ fn is_typed_body(declared: &Declared, body: &Stm) -> bool
     }
 }
 
-fn is_function(decl: &DeclForm, name: &Text) -> bool
-    ensures { result ≡ is_function name.now decl.now }
-{
-    match decl {
-        DeclForm::Fun { name: function, .. } => function.same(name),
-        _ => false,
-    }
-}
-
 fn has_function(decls: &[Decl], name: &Text) -> bool
     ensures { result ≡ is_some (function_from 0 decls.now name.now) }
 {
     for decl in decls {
-        if is_function(decl.form(), name) {
+        if is_function(decl, name) {
             return true;
         }
     }

@@ -6,10 +6,8 @@ mod declared;
 mod expr;
 mod first_form;
 mod forms;
-mod law;
 mod scope;
 mod stm;
 mod types;
 
 pub use first_form::is_first_form;
-pub use law::typed_specifications_have_tables;

@@ -6,7 +6,7 @@ ghost use Rattle.kat_syntax.specs.Typing.{ty_eq, agree, joined, takes, fixed_beh
 ghost use Rattle.kat_typing.specs.Clean.{when, literal_type};
 
 use kat_syntax::{Op, TypeName};
-use kat_value::{Ty, is_number};
+use kat_value::{Ty, is_literal};
 
 /// A tree has a fault of typing.
 #[derive(Drop)]
@@ -95,7 +95,7 @@ pub fn type_of_op(op: Op, fixed: Option<Ty>) -> Option<Ty>
 pub fn type_of_literal(width: u64, number: u64) -> Result<Option<Ty>, IllTyped>
     ensures { result_ok result ≡ literal_type width number }
 {
-    if width <= 64 && is_number(width as u32, number) {
+    if is_literal(width, number) {
         Ok(Some(Ty::Bits(width as u32)))
     } else {
         Err(IllTyped)

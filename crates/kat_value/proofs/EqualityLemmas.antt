@@ -104,5 +104,5 @@ value_eq-told = ind-Value IsTold (λ x y is w h.
     ap roll-Value (of_layer (out-Value w) (sym (value_eq-roll x (out-Value w)) ∙ at_layer)) ∙ roll-out-Value w)
 
 -- the test holds exactly of equal values
-pub value_eq-is : (v w : Value) → IsTrue (value_eq v w) ↔ (v ≡ w)
-value_eq-is v w = (value_eq-told v w, λ e. subst (λ u. value_eq v u ≡ true) e (value_eq-self v))
+pub value_eq_is : (v w : Value) → IsTrue (value_eq v w) ↔ (v ≡ w)
+value_eq_is v w = (value_eq-told v w, λ e. subst (λ u. value_eq v u ≡ true) e (value_eq-self v))

@@ -1,5 +1,5 @@
 -- Equality of values, as a test that computes.
-use Rattle.std.specs.Prelude.{Bool, true, false, ◌==◌, ◌&&◌, List, [], ◌∷◌, map}
+use Rattle.std.specs.Prelude.{Bool, true, false, IsTrue, ◌≡◌, ◌↔◌, ◌==◌, ◌&&◌, List, [], ◌∷◌, map}
 use Rattle.std.specs.Bool.{beq}
 use Rattle.kat_value.specs.declared.value.Value.{Value, fold-Value, out-Value}
 use Rattle.kat_value.specs.declared.value.Value.TheOpen.{Value-F, Unit, Bool as Truth, Bits, Member, Made, Rec}
@@ -28,3 +28,7 @@ value_eq = fold-Value (Value → Bool) (λ layer v. same_layer layer (out-Value 
 -- whether two lists of values are equal
 abbrev pub values_eq : List Value → List Value → Bool
 values_eq xs ys = all_hold (map value_eq xs) ys
+
+-- the test holds of equal values, and of no others
+abbrev pub TestsEquality : Type 0
+TestsEquality = (v w : Value) → IsTrue (value_eq v w) ↔ (v ≡ w)

@@ -29,17 +29,18 @@ pub fn copy_value(alloc: Global, value: &Value) -> Result<Value, AllocError>
         }),
         Value::Rec { of, fields } => Ok(Value::Rec {
             of: *of,
-            fields: copy_values(alloc, fields)?,
+            fields: copy_values(alloc, fields.as_slice())?,
         }),
     }
 }
 
+/// An equal list of values in memory of its own.
 #[cycle(copy)]
-fn copy_values(alloc: Global, values: &Values) -> Result<Values, AllocError>
+pub fn copy_values(alloc: Global, values: &[Value]) -> Result<Values, AllocError>
     ensures { IfOk result (λ vs. vs ≡ values.now) }
 {
     let mut copies = Items::new(alloc);
-    for value in values.as_slice() {
+    for value in values {
         copies.push(copy_value(alloc, value)?)?;
     }
     Ok(copies)

@@ -1,7 +1,7 @@
 // Equality of values, which is equality at any one type.
 
 ghost use Rattle.std.specs.Prelude.{◌≡◌, ◌↔◌, IsTrue};
-ghost use Rattle.kat_value.specs.Equality.{value_eq, values_eq};
+ghost use Rattle.kat_value.specs.Equality.{value_eq, values_eq, TestsEquality};
 
 use crate::value::{Value, Values};
 
@@ -64,3 +64,10 @@ fn same_values(a: &Values, b: &Values) -> bool
     }
     true
 }
+
+/// The test that computes whether two values are equal holds of equal values, and of no others. The function does nothing:
+/// its contract is the law.
+#[tactic(auto, using(crate::proofs::EqualityLemmas::value_eq_is))]
+pub fn equality_is_tested()
+    ensures { TestsEquality }
+{}

@@ -14,10 +14,10 @@ mod typing;
 mod value;
 
 pub use arithmetic::apply;
-pub use copy::copy_value;
-pub use equality::same_value;
+pub use copy::{copy_value, copy_values};
+pub use equality::{equality_is_tested, same_value};
 pub use op::Op;
 pub use operate::operate_on_two;
 pub use types::{Field, Ty, TypeDecl, Types};
-pub use typing::{fits, is_number};
+pub use typing::{fits, is_literal, is_number};
 pub use value::{Value, Values};

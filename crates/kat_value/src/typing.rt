@@ -1,6 +1,6 @@
 // Which values are of which types.
 
-ghost use Rattle.std.specs.Prelude.{◌≡◌, ◌↔◌, ◌^◌, IsTrue, nat_lt};
+ghost use Rattle.std.specs.Prelude.{◌≡◌, ◌↔◌, ◌≤◌, ◌^◌, IsTrue, nat_lt};
 ghost use Rattle.std.specs.Option.{option_copied};
 ghost use Rattle.kat_value.specs.Operations.{is_number};
 ghost use Rattle.kat_value.specs.Typing.{member_count, ctor_at, fields_at, has_type, have_types, HasType};
@@ -70,6 +70,14 @@ pub fn is_number(width: u32, number: u64) -> bool
     ensures { result ≡ is_number width number }
 {
     1 <= width && width <= 64 && fits_width(width, number)
+}
+
+/// The same of a width that a text tells, which may be any number.
+pub fn is_literal(width: u64, number: u64) -> bool
+    ensures value { result ≡ is_number width number }
+    ensures width { IsTrue result → width ≤ 64 }
+{
+    width <= 64 && is_number(width as u32, number)
 }
 
 /// How many members the enum at this position has; 0 where none is there.

@@ -1,4 +1,4 @@
-use Rattle.kat_syntax.specs.TypingLaws.{registers_differ, step_is_declared, step_function_is_declared}
+use Rattle.kat_syntax.proofs.TypingLaws.{registers_differ, step_is_declared, step_function_is_declared}
 use Rattle.kat_syntax.proofs.checked.Checked.new.Goals as goal
 
 pub register_table-requires-clause-distinct : goal.register_table-requires-clause-distinct

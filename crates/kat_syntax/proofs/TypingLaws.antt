@@ -15,7 +15,7 @@ use Rattle.kat_syntax.specs.Tables.{Name, function_at, function_from, step_of}
 use Rattle.kat_syntax.specs.Cycle.{register_names}
 use Rattle.kat_syntax.specs.FirstForm.{is_first_decl, are_first_decls}
 use Rattle.kat_syntax.specs.Typing.{is_among, in_decl, unless, names_from, taken_faults, decl_faults, inner_faults, step_faults, count_faults}
-use Rattle.kat_syntax.specs.Runnable.{IsTyped, IsFirstForm}
+use Rattle.kat_syntax.specs.Runnable.{IsTyped, IsFirstForm, HasDistinctRegisters, HasStepFunction}
 
 pub empty_first : {A : Type 0} (xs ys : List A) → xs ++ ys ≡ [] → xs ≡ []
 empty_first [] ys e = refl
@@ -39,14 +39,14 @@ or_second false q e = e
 or_second true q e = absurd (let f : true ≡ false = e in cc)
 
 -- no name stands among the first that does not stand among the second
-abbrev pub Within : List Name → List Name → Type 0
+abbrev Within : List Name → List Name → Type 0
 Within some all = (y : Name) → is_among all y ≡ false → is_among some y ≡ false
 
-pub within_name : (some all : List Name) (x : Name) → Within some all → Within some (all ++ x ∷ [])
+within_name : (some all : List Name) (x : Name) → Within some all → Within some (all ++ x ∷ [])
 within_name some all x within y none =
     within y (or_first (is_among all y) (is_among (x ∷ []) y) (sym (list_any-append (bytes_eq y) all (x ∷ [])) ∙ none))
 
-pub within_both : (some all : List Name) (x : Name) → Within some all → Within (some ++ x ∷ []) (all ++ x ∷ [])
+within_both : (some all : List Name) (x : Name) → Within some all → Within (some ++ x ∷ []) (all ++ x ∷ [])
 within_both some all x within y none =
     let split = sym (list_any-append (bytes_eq y) all (x ∷ [])) ∙ none in
     list_any-append (bytes_eq y) some (x ∷ [])
@@ -154,3 +154,14 @@ first_takes_nothing k (decl ∷ decls) f e =
 -- the functions of a specification that can be run have no parameters
 pub functions_take_nothing : (spec : Spec) → IsFirstForm spec → (f : Name) → IfSome (function_from 0 spec.decls f) (λ function. function.params ≡ [])
 functions_take_nothing spec first f = first_takes_nothing 0 spec.decls f first.forms
+
+pub registers_are_distinct : (spec : Spec) → IsTyped spec → HasDistinctRegisters spec
+registers_are_distinct spec typed = record { differ = registers_differ spec typed }
+
+pub step_function_is_there : (spec : Spec) → IsFirstForm spec → HasStepFunction spec
+step_function_is_there spec first = record {
+  few = few_declarations spec first.typed;
+  named = step_is_declared spec first.typed;
+  found = step_function_is_declared spec first.typed;
+  takes_nothing = functions_take_nothing spec first (unwrap_or (step_of spec.decls) []);
+}

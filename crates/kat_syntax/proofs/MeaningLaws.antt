@@ -7,12 +7,14 @@ use Rattle.kat_syntax.specs.declared.stm.CaseArm.{CaseArm}
 use Rattle.kat_syntax.specs.declared.stm.MatchArm.{MatchArm}
 use Rattle.kat_syntax.specs.declared.stm.Stm.TheShapes.{former-Stm-Case-1-at-2 as case_arm, former-Stm-Match-1-at-3 as match_arm}
 use Rattle.kat_syntax.specs.declared.stm.Stm.TheOpen.{Stm-F, Ret, Let, Seq, If, Case, Match}
-use Rattle.kat_syntax.specs.declared.stm.Stm.TheViews.{out-Stm}
+use Rattle.kat_syntax.specs.declared.stm.Stm.TheViews.{out-Stm, outs-Let, outs-If}
+use Rattle.kat_syntax.specs.declared.stm.Stm.TheVariants.{Let as LetStm, If as IfStm}
 use Rattle.kat_syntax.specs.declared.stm.Stm.TheFolds.{map-Stm, fold-Stm, fold-roll-Stm, fold_out-Stm, ind-Stm}
 use Rattle.kat_syntax.specs.Tables.{Name}
 use Rattle.kat_syntax.specs.Trees.{trees_of_expr, trees_of_case_arm, trees_of_match_arm, stm_trees, trees_of_stm}
 use Rattle.kat_syntax.specs.Machine.{Progress}
 use Rattle.kat_syntax.specs.Meaning.{Locals, Outcome, then_do, inside, is_true, value_of_expr, Calls, Part, part_of, meaning}
+use Rattle.kat_syntax.specs.MeaningByParts.{LetByParts, IfByParts}
 
 -- a statement as the part that it is
 abbrev pub whole : List Name → Calls → Stm → Part
@@ -90,3 +92,10 @@ module _ (names : List Name) (calls : Calls) where
       ∙ ap (λ (n : ℕ). if is_true (value_of_expr test locals)
       then inside (2 + trees_of_expr test) (meaning names calls first locals progress)
       else inside (2 + trees_of_expr test + n) (meaning names calls second locals progress)) (trees_of_part first)
+
+-- the same of the forms themselves
+pub let_by_parts : LetByParts
+let_by_parts names calls x first second locals progress = meaning_let names calls (LetStm x first second) x first second (outs-Let x first second) locals progress
+
+pub if_by_parts : IfByParts
+if_by_parts names calls test first second locals progress = meaning_if names calls (IfStm test first second) test first second (outs-If test first second) locals progress

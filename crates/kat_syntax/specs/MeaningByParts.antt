@@ -1,0 +1,26 @@
+-- What a statement with parts does, by what they do.
+use Rattle.std.specs.Prelude.{◌≡◌, ◌+◌, ◌∷◌, List, if◌then◌else◌}
+use Rattle.kat_syntax.specs.declared.expr.Expr.{Expr}
+use Rattle.kat_syntax.specs.declared.stm.Stm.{Stm}
+use Rattle.kat_syntax.specs.declared.stm.Stm.TheVariants.{Let, If}
+use Rattle.kat_syntax.specs.Tables.{Name}
+use Rattle.kat_syntax.specs.Trees.{trees_of_expr, trees_of_stm}
+use Rattle.kat_syntax.specs.Machine.{Progress}
+use Rattle.kat_syntax.specs.Meaning.{Locals, Calls, then_do, inside, is_true, value_of_expr, meaning}
+
+-- a `let` does its first statement, and then its second with one more local
+abbrev pub LetByParts : Type 0
+LetByParts =
+    (names : List Name) (calls : Calls) (x : Name) (first second : Stm) (locals : Locals) (progress : Progress) →
+    meaning names calls (Let x first second) locals progress
+    ≡ then_do (inside 3 (meaning names calls first locals progress))
+    (λ value next. inside (3 + trees_of_stm first) (meaning names calls second ((x, value) ∷ locals) next))
+
+-- an `if` does its first statement where its condition is true, and else its second
+abbrev pub IfByParts : Type 0
+IfByParts =
+    (names : List Name) (calls : Calls) (test : Expr) (first second : Stm) (locals : Locals) (progress : Progress) →
+    meaning names calls (If test first second) locals progress
+    ≡ (if is_true (value_of_expr test locals)
+    then inside (2 + trees_of_expr test) (meaning names calls first locals progress)
+    else inside (2 + trees_of_expr test + trees_of_stm first) (meaning names calls second locals progress))

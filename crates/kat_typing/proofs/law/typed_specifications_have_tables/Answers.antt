@@ -1,8 +1,0 @@
-use Rattle.kat_typing.proofs.Laws.{registers_are_distinct, step_function_is_there}
-use Rattle.kat_typing.proofs.law.typed_specifications_have_tables.Goals as goal
-
-pub returns-clause-registers : goal.returns-clause-registers
-returns-clause-registers c = registers_are_distinct
-
-pub returns-clause-step : goal.returns-clause-step
-returns-clause-step c = step_function_is_there
