@@ -1,9 +1,9 @@
 // The parts of each form.
 
-ghost use Rattle.std.specs.Prelude.{◌≡◌, ◌↔◌, [], IsTrue, IsSome, slice_get};
+ghost use Rattle.std.specs.Prelude.{◌≡◌, ◌↔◌, if◌then◌else◌, [], None, IsTrue, IsSome, slice_get};
 ghost use Rattle.std.specs.Option.{option_map, option_and_then};
 ghost use Rattle.kat_forms.specs.Shapes.{shape_of_decl, shape_of_stm, shape_of_expr, shape_of_assertion, shape_of_form, shape_of, sorts_of, exactly, many};
-ghost use Rattle.kat_forms.specs.Seen.{seen_shape, IsSmall};
+ghost use Rattle.kat_forms.specs.Seen.{seen_shape, is_small};
 
 use crate::heads::{
     AssertionHead, DeclHead, ExprHead, StmHead, assertion_head, decl_head, expr_head, stm_head,
@@ -141,9 +141,9 @@ fn shape_of_assertion(head: AssertionHead) -> Shape
     }
 }
 
-// The shape of a form that one word alone begins.
+// The shape of a form of a sort whose forms are told by one word each.
 fn shape_of_small(sort: Sort, word: &str) -> Option<Shape>
-    ensures small { IsSmall sort → option_map seen_shape result ≡ shape_of_form sort word.now }
+    ensures { option_map seen_shape result ≡ if is_small sort then shape_of_form sort word.now else None }
 {
     match (sort, word) {
         (Sort::Spec, "spec") => Some(many(&[Word, Version], Declaration)),
