@@ -1,14 +1,18 @@
 // The parts of each form.
 
-ghost use Rattle.std.specs.Prelude.{◌≡◌, ◌↔◌, [], IsTrue, IsSome, slice_get};
+ghost use Rattle.std.specs.Prelude.{◌≡◌, ◌↔◌, if◌then◌else◌, [], None, IsTrue, IsSome, slice_get};
 ghost use Rattle.std.specs.Option.{option_map, option_and_then};
 ghost use Rattle.kat_forms.specs.Shapes.{shape_of_decl, shape_of_stm, shape_of_expr, shape_of_assertion, shape_of_form, shape_of, sorts_of, exactly, many};
-ghost use Rattle.kat_forms.specs.Seen.{seen_shape, IsSmall};
+ghost use Rattle.kat_forms.specs.Seen.{seen_shape, is_small};
 
 use crate::heads::{
     AssertionHead, DeclHead, ExprHead, StmHead, assertion_head, decl_head, expr_head, stm_head,
 };
-use crate::sort::Sort;
+use crate::sort::Sort::{
+    self, Assertion, CaseArm, CellsPlace, Change, Declaration, Else, Entry, Expression, Fields,
+    MatchArm, Members, Name, Number, Param, Params, Phase, Post, Pre, RegisterPlace, Res,
+    Statement, Steps, TypeName, Version, When, Within, Word,
+};
 use kat_syntax::Op;
 
 /// What the parts of a list are read as, its first word among them: first parts, then any number of one sort, then
@@ -46,72 +50,25 @@ fn shape_of_decl(head: DeclHead) -> Shape
     ensures { seen_shape result ≡ shape_of_decl head }
 {
     match head {
-        DeclHead::Enum => exactly(&[Sort::Word, Sort::Name, Sort::Members]),
-        DeclHead::Union | DeclHead::Record => exactly(&[Sort::Word, Sort::Name, Sort::Fields]),
-        DeclHead::Register => {
-            exactly(&[Sort::Word, Sort::Name, Sort::TypeName, Sort::RegisterPlace])
-        }
-        DeclHead::Memory => exactly(&[
-            Sort::Word,
-            Sort::Number,
-            Sort::Number,
-            Sort::Number,
-            Sort::Number,
-        ]),
-        DeclHead::Cells => exactly(&[Sort::Word, Sort::CellsPlace, Sort::Number, Sort::Number]),
-        DeclHead::Code => many(&[Sort::Word, Sort::Number, Sort::Number], Sort::Number),
-        DeclHead::Region => exactly(&[
-            Sort::Word,
-            Sort::Name,
-            Sort::Params,
-            Sort::Name,
-            Sort::Expression,
-        ]),
-        DeclHead::Predicate => exactly(&[
-            Sort::Word,
-            Sort::Name,
-            Sort::Params,
-            Sort::Params,
-            Sort::Assertion,
-        ]),
-        DeclHead::Fun => exactly(&[
-            Sort::Word,
-            Sort::Name,
-            Sort::Params,
-            Sort::TypeName,
-            Sort::Statement,
-        ]),
-        DeclHead::Contract => exactly(&[
-            Sort::Word,
-            Sort::Name,
-            Sort::Params,
-            Sort::Pre,
-            Sort::Res,
-            Sort::Post,
-        ]),
-        DeclHead::Lemma => exactly(&[
-            Sort::Word,
-            Sort::Name,
-            Sort::Params,
-            Sort::Params,
-            Sort::Pre,
-            Sort::Post,
-            Sort::Steps,
-        ]),
-        DeclHead::Step | DeclHead::Boot => exactly(&[Sort::Word, Sort::Name]),
+        DeclHead::Enum => exactly(&[Word, Name, Members]),
+        DeclHead::Union | DeclHead::Record => exactly(&[Word, Name, Fields]),
+        DeclHead::Register => exactly(&[Word, Name, TypeName, RegisterPlace]),
+        DeclHead::Memory => exactly(&[Word, Number, Number, Number, Number]),
+        DeclHead::Cells => exactly(&[Word, CellsPlace, Number, Number]),
+        DeclHead::Code => many(&[Word, Number, Number], Number),
+        DeclHead::Region => exactly(&[Word, Name, Params, Name, Expression]),
+        DeclHead::Predicate => exactly(&[Word, Name, Params, Params, Assertion]),
+        DeclHead::Fun => exactly(&[Word, Name, Params, TypeName, Statement]),
+        DeclHead::Contract => exactly(&[Word, Name, Params, Pre, Res, Post]),
+        DeclHead::Lemma => exactly(&[Word, Name, Params, Params, Pre, Post, Steps]),
+        DeclHead::Step | DeclHead::Boot => exactly(&[Word, Name]),
         DeclHead::Dispatch => Shape {
-            first: &[Sort::Word],
-            middle: Some(Sort::When),
-            last: &[Sort::Else],
+            first: &[Word],
+            middle: Some(When),
+            last: &[Else],
         },
-        DeclHead::Untrusted => exactly(&[Sort::Word, Sort::Assertion]),
-        DeclHead::Block => exactly(&[
-            Sort::Word,
-            Sort::Name,
-            Sort::Entry,
-            Sort::Within,
-            Sort::Change,
-        ]),
+        DeclHead::Untrusted => exactly(&[Word, Assertion]),
+        DeclHead::Block => exactly(&[Word, Name, Entry, Within, Change]),
     }
 }
 
@@ -119,24 +76,20 @@ fn shape_of_stm(head: StmHead) -> Shape
     ensures { seen_shape result ≡ shape_of_stm head }
 {
     match head {
-        StmHead::Ret | StmHead::Load | StmHead::Check => exactly(&[Sort::Word, Sort::Expression]),
-        StmHead::Let => exactly(&[Sort::Word, Sort::Name, Sort::Statement, Sort::Statement]),
-        StmHead::Seq => many(&[Sort::Word, Sort::Statement], Sort::Statement),
-        StmHead::If => exactly(&[
-            Sort::Word,
-            Sort::Expression,
-            Sort::Statement,
-            Sort::Statement,
-        ]),
-        StmHead::Case => many(&[Sort::Word, Sort::Expression], Sort::CaseArm),
-        StmHead::Match => many(&[Sort::Word, Sort::Expression], Sort::MatchArm),
-        StmHead::Read => exactly(&[Sort::Word, Sort::Name]),
-        StmHead::Write => exactly(&[Sort::Word, Sort::Name, Sort::Expression]),
-        StmHead::Store => exactly(&[Sort::Word, Sort::Expression, Sort::Expression]),
-        StmHead::Call | StmHead::Open | StmHead::Close | StmHead::Lemma => {
-            many(&[Sort::Word, Sort::Name], Sort::Expression)
-        }
-        StmHead::Fail => exactly(&[Sort::Word]),
+        StmHead::Ret | StmHead::Load | StmHead::Check => exactly(&[Word, Expression]),
+        StmHead::Let => exactly(&[Word, Name, Statement, Statement]),
+        StmHead::Seq => many(&[Word, Statement], Statement),
+        StmHead::If => exactly(&[Word, Expression, Statement, Statement]),
+        StmHead::Case => many(&[Word, Expression], CaseArm),
+        StmHead::Match => many(&[Word, Expression], MatchArm),
+        StmHead::Read => exactly(&[Word, Name]),
+        StmHead::Write => exactly(&[Word, Name, Expression]),
+        StmHead::Store => exactly(&[Word, Expression, Expression]),
+        StmHead::Call | StmHead::Open | StmHead::Close | StmHead::Lemma => many(
+            &[Word, Name],
+            Expression,
+        ),
+        StmHead::Fail => exactly(&[Word]),
     }
 }
 
@@ -149,14 +102,9 @@ fn shape_of_op(op: Op) -> Shape
         | Op::Slice { .. }
         | Op::Zext { .. }
         | Op::Sext { .. }
-        | Op::Get { .. } => exactly(&[Sort::Word, Sort::Expression]),
-        Op::Ite => exactly(&[
-            Sort::Word,
-            Sort::Expression,
-            Sort::Expression,
-            Sort::Expression,
-        ]),
-        _ => exactly(&[Sort::Word, Sort::Expression, Sort::Expression]),
+        | Op::Get { .. } => exactly(&[Word, Expression]),
+        Op::Ite => exactly(&[Word, Expression, Expression, Expression]),
+        _ => exactly(&[Word, Expression, Expression]),
     }
 }
 
@@ -164,21 +112,17 @@ fn shape_of_expr(head: ExprHead) -> Shape
     ensures { seen_shape result ≡ shape_of_expr head }
 {
     match head {
-        ExprHead::Bits => exactly(&[Sort::Word, Sort::Number, Sort::Number]),
-        ExprHead::Of => exactly(&[Sort::Word, Sort::Name, Sort::Name]),
-        ExprHead::Make => exactly(&[Sort::Word, Sort::Name, Sort::Expression]),
-        ExprHead::Rec => many(&[Sort::Word, Sort::Name], Sort::Expression),
-        ExprHead::Register | ExprHead::Kept | ExprHead::Before | ExprHead::After => {
-            exactly(&[Sort::Word, Sort::Name])
-        }
-        ExprHead::KeptCell | ExprHead::BeforeCell | ExprHead::AfterCell => {
-            exactly(&[Sort::Word, Sort::Number])
-        }
-        ExprHead::Get => exactly(&[Sort::Word, Sort::Name, Sort::Name, Sort::Expression]),
-        ExprHead::Slice => exactly(&[Sort::Word, Sort::Number, Sort::Number, Sort::Expression]),
-        ExprHead::Zext | ExprHead::Sext => {
-            exactly(&[Sort::Word, Sort::Number, Sort::Expression])
-        }
+        ExprHead::Bits => exactly(&[Word, Number, Number]),
+        ExprHead::Of => exactly(&[Word, Name, Name]),
+        ExprHead::Make => exactly(&[Word, Name, Expression]),
+        ExprHead::Rec => many(&[Word, Name], Expression),
+        ExprHead::Register | ExprHead::Kept | ExprHead::Before | ExprHead::After => exactly(&[
+            Word, Name,
+        ]),
+        ExprHead::KeptCell | ExprHead::BeforeCell | ExprHead::AfterCell => exactly(&[Word, Number]),
+        ExprHead::Get => exactly(&[Word, Name, Name, Expression]),
+        ExprHead::Slice => exactly(&[Word, Number, Number, Expression]),
+        ExprHead::Zext | ExprHead::Sext => exactly(&[Word, Number, Expression]),
         ExprHead::Plain(op) => shape_of_op(op),
     }
 }
@@ -187,40 +131,31 @@ fn shape_of_assertion(head: AssertionHead) -> Shape
     ensures { seen_shape result ≡ shape_of_assertion head }
 {
     match head {
-        AssertionHead::Pure => exactly(&[Sort::Word, Sort::Expression]),
-        AssertionHead::Register => exactly(&[Sort::Word, Sort::Name, Sort::Expression]),
-        AssertionHead::Cell => exactly(&[Sort::Word, Sort::Expression, Sort::Expression]),
-        AssertionHead::Star => many(&[Sort::Word], Sort::Assertion),
-        AssertionHead::If => exactly(&[
-            Sort::Word,
-            Sort::Expression,
-            Sort::Assertion,
-            Sort::Assertion,
-        ]),
-        AssertionHead::Exists => exactly(&[Sort::Word, Sort::Param, Sort::Assertion]),
-        AssertionHead::Predicate | AssertionHead::Region => {
-            many(&[Sort::Word, Sort::Name], Sort::Expression)
-        }
+        AssertionHead::Pure => exactly(&[Word, Expression]),
+        AssertionHead::Register => exactly(&[Word, Name, Expression]),
+        AssertionHead::Cell => exactly(&[Word, Expression, Expression]),
+        AssertionHead::Star => many(&[Word], Assertion),
+        AssertionHead::If => exactly(&[Word, Expression, Assertion, Assertion]),
+        AssertionHead::Exists => exactly(&[Word, Param, Assertion]),
+        AssertionHead::Predicate | AssertionHead::Region => many(&[Word, Name], Expression),
     }
 }
 
-// The shape of a form that one word alone begins.
+// The shape of a form of a sort whose forms are told by one word each.
 fn shape_of_small(sort: Sort, word: &str) -> Option<Shape>
-    ensures small { IsSmall sort → option_map seen_shape result ≡ shape_of_form sort word.now }
+    ensures { option_map seen_shape result ≡ if is_small sort then shape_of_form sort word.now else None }
 {
     match (sort, word) {
-        (Sort::Spec, "spec") => Some(many(&[Sort::Word, Sort::Version], Sort::Declaration)),
-        (Sort::TypeName, "bits") | (Sort::Within, "within") => {
-            Some(exactly(&[Sort::Word, Sort::Number]))
-        }
-        (Sort::Phase, "block") | (Sort::Res, "res") => Some(exactly(&[Sort::Word, Sort::Name])),
-        (Sort::Pre, "pre") | (Sort::Post, "post") | (Sort::Entry, "entry") => {
-            Some(exactly(&[Sort::Word, Sort::Assertion]))
-        }
-        (Sort::Steps, "steps") => Some(many(&[Sort::Word], Sort::Statement)),
-        (Sort::When, "when") => Some(exactly(&[Sort::Word, Sort::Expression, Sort::Phase])),
-        (Sort::Else, "else") => Some(exactly(&[Sort::Word, Sort::Phase])),
-        (Sort::Change, "change") => Some(exactly(&[Sort::Word, Sort::Expression])),
+        (Sort::Spec, "spec") => Some(many(&[Word, Version], Declaration)),
+        (Sort::TypeName, "bits") | (Sort::Within, "within") => Some(exactly(&[Word, Number])),
+        (Sort::Phase, "block") | (Sort::Res, "res") => Some(exactly(&[Word, Name])),
+        (Sort::Pre, "pre") | (Sort::Post, "post") | (Sort::Entry, "entry") => Some(exactly(&[
+            Word, Assertion,
+        ])),
+        (Sort::Steps, "steps") => Some(many(&[Word], Statement)),
+        (Sort::When, "when") => Some(exactly(&[Word, Expression, Phase])),
+        (Sort::Else, "else") => Some(exactly(&[Word, Phase])),
+        (Sort::Change, "change") => Some(exactly(&[Word, Expression])),
         _ => None,
     }
 }
@@ -243,12 +178,12 @@ pub(crate) fn shape_of(sort: Sort, first: Option<&str>) -> Option<Shape>
     ensures { option_map seen_shape result ≡ shape_of sort (option_map (λ word. word.now) first.entry) }
 {
     match sort {
-        Sort::Members => Some(many(&[Sort::Name], Sort::Name)),
-        Sort::Params => Some(many(&[], Sort::Param)),
-        Sort::Fields => Some(many(&[Sort::Param], Sort::Param)),
-        Sort::Param => Some(exactly(&[Sort::Name, Sort::TypeName])),
-        Sort::CaseArm => Some(exactly(&[Sort::Name, Sort::Statement])),
-        Sort::MatchArm => Some(exactly(&[Sort::Name, Sort::Name, Sort::Statement])),
+        Sort::Members => Some(many(&[Name], Name)),
+        Sort::Params => Some(many(&[], Param)),
+        Sort::Fields => Some(many(&[Param], Param)),
+        Sort::Param => Some(exactly(&[Name, TypeName])),
+        Sort::CaseArm => Some(exactly(&[Name, Statement])),
+        Sort::MatchArm => Some(exactly(&[Name, Name, Statement])),
         _ => shape_of_form(sort, first?),
     }
 }

@@ -47,10 +47,11 @@ impl Image {
         }
     }
 
-    // Sets a register, which no line before has set, to a number that fits.
+    // Sets a register, which no line before has set, to a number that fits; else leaves the image as it was.
     fn set(&mut self, at: u32, number: u64) -> bool
         ensures set { IsTrue result → IsSetTo self.old at number self.new }
         ensures unset { IsFalse result → (width : ℕ) → IsFree self.old at width → IsNumber width number → ⊥ }
+        ensures kept { IsFalse result → self.new ≡ self.old }
     {
         let Some(width) = self.free_width(at) else {
             return false;
