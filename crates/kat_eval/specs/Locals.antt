@@ -9,5 +9,6 @@ abbrev pub locals_step : Locals-F Scope → Scope
 locals_step Empty = []
 locals_step (More name value rest) = (name.now, value.now) ∷ rest.now
 
+-- the locals of the code as the meaning sees them, the newest first
 abbrev pub locals_of : Locals → Scope
 locals_of = fold-Locals Scope locals_step

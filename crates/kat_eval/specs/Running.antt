@@ -7,9 +7,11 @@ use Rattle.kat_eval.specs.declared.running.Site.TheVariants.{Here as HereEnd, Th
 use Rattle.kat_eval.specs.declared.running.StmEnd.{StmEnd}
 use Rattle.kat_eval.specs.declared.running.StmEnd.TheVariants.{Done as DoneEnd, Out as OutEnd, Fail as FailEnd}
 
+-- what is running, as the meaning sees it
 abbrev pub progress_of : Running → Progress
 progress_of r = record { state = r.state; left = r.left; stores = r.stores }
 
+-- how a statement ended, as the outcome that the meaning has
 abbrev pub outcome_of : StmEnd → Progress → Outcome
 outcome_of (DoneEnd value) progress = Done value progress
 outcome_of OutEnd progress = Out

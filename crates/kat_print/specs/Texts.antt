@@ -35,6 +35,7 @@ bracketed parts = 40 ∷ (spaced parts ++ 41 ∷ [])
 abbrev pub listed : List ℕ → List (List ℕ) → List ℕ
 listed head parts = bracketed (head ∷ parts)
 
+-- the text of a type
 abbrev pub text_of_type : TypeName → List ℕ
 text_of_type t.Unit = codes "unit"
 text_of_type t.Bool = codes "bool"
@@ -81,6 +82,7 @@ expr_text (e.AfterCell i) = listed (codes "after_cell") (decimal i ∷ [])
 expr_text (e.Apply op args) = listed (text_of_op op) args
 expr_text (e.Get r f value) = listed (codes "get") (r ∷ f ∷ value ∷ [])
 
+-- the text of an expression
 abbrev pub text_of_expr : Expr → List ℕ
 text_of_expr = fold-Expr (List ℕ) expr_text
 
@@ -111,6 +113,7 @@ stm_text (s.Open p inputs) = listed (codes "open") (p ∷ map text_of_expr input
 stm_text (s.Close p inputs) = listed (codes "close") (p ∷ map text_of_expr inputs)
 stm_text (s.Lemma l args) = listed (codes "lemma") (l ∷ map text_of_expr args)
 
+-- the text of a statement
 abbrev pub text_of_stm : Stm → List ℕ
 text_of_stm = fold-Stm (List ℕ) stm_text
 
@@ -133,9 +136,11 @@ assertion_text (a.Exists x type body) = listed (codes "exists") (listed x (text_
 assertion_text (a.Predicate p args) = listed (codes "pred") (p ∷ map text_of_expr args)
 assertion_text (a.Region g args) = listed (codes "region") (g ∷ map text_of_expr args)
 
+-- the text of an assertion
 abbrev pub text_of_assertion : Assertion → List ℕ
 text_of_assertion = fold-Assertion (List ℕ) assertion_text
 
+-- the text of a phase
 abbrev pub text_of_phase : Phase → List ℕ
 text_of_phase p.Untrusted = codes "untrusted"
 text_of_phase p.Inside = codes "inside"
@@ -149,6 +154,7 @@ text_of_when w = listed (codes "when") (text_of_expr w.test ∷ text_of_phase w.
 abbrev pub text_holding : List ℕ → Assertion → List ℕ
 text_holding head assertion = listed head (text_of_assertion assertion ∷ [])
 
+-- the text of a declaration
 abbrev pub text_of_decl : DeclForm → List ℕ
 text_of_decl (d.Enum x members) = listed (codes "enum") (x ∷ bracketed members ∷ [])
 text_of_decl (d.Union x ctors) = listed (codes "union") (x ∷ text_of_params ctors ∷ [])

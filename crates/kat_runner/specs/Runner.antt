@@ -18,6 +18,7 @@ text_for_end spec run Ended = state_text_of spec run
 text_for_end spec run (OutIn cycle) = boundary_text_of spec run
 text_for_end spec run (FailedIn cycle place) = boundary_text_of spec run
 
+-- the text that the runner owes of a run: all of it but the line of a fault
 abbrev pub text_owed : Spec → Run → List ℕ
 text_owed spec run = text_for_end spec run run.end
 

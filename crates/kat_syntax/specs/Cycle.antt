@@ -24,6 +24,7 @@ abbrev pub place_in : ℕ → Site → Place
 place_in decl (Here tree) = record { decl = decl; tree = tree }
 place_in decl (There place) = place
 
+-- the outcome of a body, as that of a call: a failure stands in the declaration of this number
 abbrev pub elsewhere : ℕ → Outcome → Outcome
 elsewhere decl (Done value progress) = Done value progress
 elsewhere decl Out = Out

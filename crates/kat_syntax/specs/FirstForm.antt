@@ -14,6 +14,7 @@ use Rattle.kat_syntax.specs.declared.decl.DeclForm.{DeclForm}
 use Rattle.kat_syntax.specs.declared.decl.DeclForm.TheVariants.{Register, Fun, Step}
 use Rattle.kat_syntax.specs.Formed.{every}
 
+-- `eq`, `ult` and `add`
 abbrev pub is_first_op : Op → Bool
 is_first_op Eq = true
 is_first_op Ult = true
@@ -28,6 +29,7 @@ expr_first (Bits width n) = true
 expr_first (Apply op args) = is_first_op op && every args
 expr_first _ = false
 
+-- whether an expression is of these forms
 abbrev pub is_first_expr : Expr → Bool
 is_first_expr = fold-Expr Bool expr_first
 
@@ -41,6 +43,7 @@ stm_first (Write r e) = is_first_expr e
 stm_first Fail = true
 stm_first _ = false
 
+-- whether a statement is of these forms
 abbrev pub is_first_stm : Stm → Bool
 is_first_stm = fold-Stm Bool stm_first
 
@@ -51,5 +54,6 @@ is_first_decl (Fun x [] UnitName body) = is_first_stm body
 is_first_decl (Step f) = true
 is_first_decl _ = false
 
+-- whether all declarations are of these forms
 abbrev pub are_first_decls : List DeclForm → Bool
 are_first_decls decls = every (map is_first_decl decls)

@@ -32,6 +32,7 @@ abbrev pub every : List Bool → Bool
 every [] = true
 every (b ∷ bs) = b && every bs
 
+-- whether a list has a part
 abbrev pub is_some : {A : Type 0} → List A → Bool
 is_some [] = false
 is_some (x ∷ xs) = true
@@ -41,9 +42,11 @@ abbrev pub is_formed_type : TypeName → Bool
 is_formed_type (Named x) = is_name x && not (bytes_eq x (codes "bool"))
 is_formed_type _ = true
 
+-- `(x T)`
 abbrev pub is_formed_param : Param → Bool
 is_formed_param p = is_name p.name && is_formed_type p.ty
 
+-- names with their types
 abbrev pub are_formed_params : List Param → Bool
 are_formed_params ps = every (map is_formed_param ps)
 
@@ -82,15 +85,19 @@ expr_formed (AfterCell i) = true
 expr_formed (Apply op args) = is_written op && ((length args == arity_of op) && every args)
 expr_formed (Get r f value) = is_name r && (is_name f && value)
 
+-- whether an expression has the form of the text
 abbrev pub is_formed_expr : Expr → Bool
 is_formed_expr = fold-Expr Bool expr_formed
 
+-- whether all expressions have
 abbrev pub are_formed_exprs : List Expr → Bool
 are_formed_exprs es = every (map is_formed_expr es)
 
+-- `(A S)`
 abbrev pub is_formed_case_arm : CaseArm Bool → Bool
 is_formed_case_arm arm = is_name arm.member && arm.body
 
+-- `(K x S)`
 abbrev pub is_formed_match_arm : MatchArm Bool → Bool
 is_formed_match_arm arm = is_name arm.ctor && (is_name arm.payload && arm.body)
 
@@ -113,6 +120,7 @@ stm_formed (Open p inputs) = is_name p && are_formed_exprs inputs
 stm_formed (Close p inputs) = is_name p && are_formed_exprs inputs
 stm_formed (Lemma l args) = is_name l && are_formed_exprs args
 
+-- whether a statement has the form of the text
 abbrev pub is_formed_stm : Stm → Bool
 is_formed_stm = fold-Stm Bool stm_formed
 
@@ -127,13 +135,16 @@ assertion_formed (a.Exists x type body) = is_name x && (is_formed_type type && b
 assertion_formed (a.Predicate p args) = is_name p && are_formed_exprs args
 assertion_formed (a.Region g args) = is_name g && are_formed_exprs args
 
+-- whether an assertion has the form of the text
 abbrev pub is_formed_assertion : Assertion → Bool
 is_formed_assertion = fold-Assertion Bool assertion_formed
 
+-- a block has a name
 abbrev pub is_formed_phase : Phase → Bool
 is_formed_phase (BlockPhase x) = is_name x
 is_formed_phase _ = true
 
+-- `(when E phase)`
 abbrev pub is_formed_when : When → Bool
 is_formed_when w = is_formed_expr w.test && is_formed_phase w.phase
 

@@ -34,9 +34,11 @@ expr_value (Bits width number) locals = if is_number width number then Number wi
 expr_value (Apply op args) locals = unwrap_or (value_of_op op (map (λ arg. arg locals) args)) UnitValue
 expr_value _ locals = UnitValue
 
+-- the value of an expression, among these locals
 abbrev pub value_of_expr : Expr → Locals → Value
 value_of_expr = fold-Expr (Locals → Value) expr_value
 
+-- whether a value is the truth that holds
 abbrev pub is_true : Value → Bool
 is_true (Truth b) = b
 is_true _ = false

@@ -61,6 +61,7 @@ pub record Run : Type 0 where
   pub boundaries : List MachineState
   pub end : RunEnd
 
+-- a run with one boundary in front
 abbrev pub with_boundary : MachineState → Run → Run
 with_boundary state run = record run { boundaries = state ∷ run.boundaries }
 

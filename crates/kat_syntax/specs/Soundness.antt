@@ -1,4 +1,4 @@
--- Type soundness: a specification without faults of typing meets no value that is of another type than typing says.
+-- Type soundness: in a specification without faults of typing, values are of the types that typing says.
 use Rattle.std.specs.Prelude.{◌≡◌, ◌<◌, ◌^◌, ◌++◌, ℕ, true, IsTrue, List, [], length, Option, Some, None, IfSome}
 use Rattle.std.specs.List.{AllZip, AllByRecursion}
 use Rattle.kat_value.specs.declared.types.Ty.{Ty}

@@ -19,6 +19,7 @@ pub record RegisterDecl : Type 0 where
   pub type : TypeName
   pub kind : RegisterKind
 
+-- the declared registers, in order
 abbrev pub registers_of : List DeclForm → List RegisterDecl
 registers_of [] = []
 registers_of (Register x type kind ∷ decls) = record { name = x; type = type; kind = kind } ∷ registers_of decls

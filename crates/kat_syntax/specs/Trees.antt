@@ -54,9 +54,11 @@ expr_trees (AfterCell i) = 3
 expr_trees (Apply op args) = 2 + numbers_of_op op + sum args
 expr_trees (Get r f value) = 4 + value
 
+-- how many trees an expression has
 abbrev pub trees_of_expr : Expr → ℕ
 trees_of_expr = fold-Expr ℕ expr_trees
 
+-- how many trees expressions have together
 abbrev pub trees_of_exprs : List Expr → ℕ
 trees_of_exprs es = sum_by trees_of_expr es
 
@@ -87,6 +89,7 @@ stm_trees (Open p inputs) = 3 + trees_of_exprs inputs
 stm_trees (Close p inputs) = 3 + trees_of_exprs inputs
 stm_trees (Lemma l args) = 3 + trees_of_exprs args
 
+-- how many trees a statement has
 abbrev pub trees_of_stm : Stm → ℕ
 trees_of_stm = fold-Stm ℕ stm_trees
 
@@ -111,6 +114,7 @@ trees_of_type _ = 1
 abbrev pub trees_of_param : Param → ℕ
 trees_of_param p = 2 + trees_of_type p.ty
 
+-- how many trees parameters have, their list among them
 abbrev pub trees_of_params : List Param → ℕ
 trees_of_params ps = 1 + sum_by trees_of_param ps
 
@@ -125,6 +129,7 @@ assertion_trees (a.Exists x type body) = 4 + trees_of_type type + body
 assertion_trees (a.Predicate p args) = 3 + trees_of_exprs args
 assertion_trees (a.Region g args) = 3 + trees_of_exprs args
 
+-- how many trees an assertion has
 abbrev pub trees_of_assertion : Assertion → ℕ
 trees_of_assertion = fold-Assertion ℕ assertion_trees
 
@@ -137,6 +142,7 @@ trees_of_phase _ = 1
 abbrev pub trees_of_when : When → ℕ
 trees_of_when w = 2 + trees_of_expr w.test + trees_of_phase w.phase
 
+-- how many trees a declaration has
 abbrev pub trees_of_decl : DeclForm → ℕ
 trees_of_decl (d.Enum x members) = 4 + length members
 trees_of_decl (d.Union x ctors) = 3 + trees_of_params ctors

@@ -33,6 +33,7 @@ use Rattle.kat_syntax.specs.declared.decl.DeclForm.TheVariants as d
 abbrev pub word : List ℕ → Tree
 word x = tree.Atom (NameToken x)
 
+-- the tree of a number
 abbrev pub number : ℕ → Tree
 number n = tree.Atom (NumberToken n)
 
@@ -40,6 +41,7 @@ number n = tree.Atom (NumberToken n)
 abbrev pub form : List ℕ → List Tree → Tree
 form head parts = tree.List (word head ∷ parts)
 
+-- the tree of a type
 abbrev pub tree_of_type : TypeName → Tree
 tree_of_type t.Unit = word (codes "unit")
 tree_of_type t.Bool = word (codes "bool")
@@ -109,6 +111,7 @@ expr_tree (AfterCell i) = form (codes "after_cell") (number i ∷ [])
 expr_tree (Apply op args) = form (word_of_op op) (numbers_before op ++ args)
 expr_tree (Get r f value) = form (codes "get") (word r ∷ word f ∷ value ∷ [])
 
+-- the tree of an expression
 abbrev pub tree_of_expr : Expr → Tree
 tree_of_expr = fold-Expr Tree expr_tree
 
@@ -139,6 +142,7 @@ stm_tree (Open p inputs) = form (codes "open") (word p ∷ map tree_of_expr inpu
 stm_tree (Close p inputs) = form (codes "close") (word p ∷ map tree_of_expr inputs)
 stm_tree (Lemma l args) = form (codes "lemma") (word l ∷ map tree_of_expr args)
 
+-- the tree of a statement
 abbrev pub tree_of_stm : Stm → Tree
 tree_of_stm = fold-Stm Tree stm_tree
 
@@ -153,9 +157,11 @@ assertion_tree (a.Exists x type body) = form (codes "exists") (tree.List (word x
 assertion_tree (a.Predicate p args) = form (codes "pred") (word p ∷ map tree_of_expr args)
 assertion_tree (a.Region g args) = form (codes "region") (word g ∷ map tree_of_expr args)
 
+-- the tree of an assertion
 abbrev pub tree_of_assertion : Assertion → Tree
 tree_of_assertion = fold-Assertion Tree assertion_tree
 
+-- `untrusted`, `inside` or `(block x)`
 abbrev pub tree_of_phase : Phase → Tree
 tree_of_phase p.Untrusted = word (codes "untrusted")
 tree_of_phase p.Inside = word (codes "inside")
@@ -165,11 +171,13 @@ tree_of_phase (p.Block x) = form (codes "block") (word x ∷ [])
 abbrev pub tree_of_when : When → Tree
 tree_of_when w = form (codes "when") (tree_of_expr w.test ∷ tree_of_phase w.phase ∷ [])
 
+-- the place of a register
 abbrev pub word_of_register_kind : RegisterKind → List ℕ
 word_of_register_kind r.Plain = codes "plain"
 word_of_register_kind r.Protected = codes "protected"
 word_of_register_kind r.Outside = codes "outside"
 
+-- the place of cells
 abbrev pub word_of_cells_kind : CellsKind → List ℕ
 word_of_cells_kind c.Protected = codes "protected"
 word_of_cells_kind c.Outside = codes "outside"
@@ -178,6 +186,7 @@ word_of_cells_kind c.Outside = codes "outside"
 abbrev pub holding : List ℕ → Assertion → Tree
 holding head assertion = form head (tree_of_assertion assertion ∷ [])
 
+-- the tree of a declaration
 abbrev pub tree_of_decl : DeclForm → Tree
 tree_of_decl (d.Enum x members) = form (codes "enum") (word x ∷ tree.List (map word members) ∷ [])
 tree_of_decl (d.Union x ctors) = form (codes "union") (word x ∷ tree_of_params ctors ∷ [])

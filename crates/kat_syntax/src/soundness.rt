@@ -1,4 +1,4 @@
-// What a specification without faults of typing never meets.
+// What holds of the values that a specification without faults of typing meets.
 
 ghost use Rattle.kat_syntax.specs.declared.decl.Spec.{Spec};
 ghost use Rattle.kat_syntax.specs.Runnable.{IsTyped, IsFirstForm, HasDistinctRegisters, HasStepFunction};

@@ -45,12 +45,13 @@ done_only_print name None spec told agrees is = absurd (cc)
 done_only_print name (Some bytes) (Ok spec) told agrees is = (spec, record { bytes = bytes; is_told = refl; few = agrees.0; stands = agrees.1 }, refl)
 done_only_print name (Some bytes) (Err refusal) told agrees is = absurd (not_done name refusal is)
 
-pub done_only_run : (job : RunJob) (t u : Option (List ℕ)) (spec : Result Spec Refusal) (start : Result MachineState Refusal) → IsSome t → IsSome u →
+pub done_only_run : (job : RunJob) (t u : Option (List ℕ)) (spec : Result Spec Refusal) (start : Result MachineState Refusal) → IsSome t → ((s : Spec) → StandsFor IsMachine t s → IsSome u) →
     Agrees IsMachineOf t spec → IsStartAsTold spec u start → IsDoneStatus (job_answer job spec start).status →
     (s : Spec) × (state : MachineState) × StandsFor IsMachine t s × StandsFor (IsImageOf s) u state × (job_answer job spec start ≡ run_answer_of job s state)
 done_only_run job None u spec start told shown agrees starts is = absurd (cc)
 done_only_run job (Some bytes) u (Err refusal) start told shown agrees starts is = absurd (not_done job.spec refusal is)
-done_only_run job (Some bytes) None (Ok spec) start told shown agrees starts is = absurd (cc)
+done_only_run job (Some bytes) None (Ok spec) start told shown agrees starts is =
+    let none = shown spec (record { bytes = bytes; is_told = refl; few = agrees.0; stands = agrees.1 }) in absurd (cc)
 done_only_run job (Some bytes) (Some image) (Ok spec) (Err refusal) told shown agrees starts is = absurd (not_done job.image refusal is)
 done_only_run job (Some bytes) (Some image) (Ok spec) (Ok state) told shown agrees starts is = (
   spec,

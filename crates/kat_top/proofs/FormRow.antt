@@ -62,13 +62,14 @@ module _ (laws : FileLaws) where
   form_only_print name (Some bytes) (Err refusal) told agrees is =
       nothing_of Reads IsSpecOf name bytes refusal (no_spec laws bytes refusal) (came_of IsSpecOf name bytes refusal agrees) is
 
-  pub form_only_run : (job : RunJob) (t u : Option (List ℕ)) (spec : Result Spec Refusal) (start : Result MachineState Refusal) → IsSome t → IsSome u →
+  pub form_only_run : (job : RunJob) (t u : Option (List ℕ)) (spec : Result Spec Refusal) (start : Result MachineState Refusal) → IsSome t → ((s : Spec) → StandsFor IsMachine t s → IsSome u) →
       Agrees IsMachineOf t spec → IsStartAsTold spec u start → (job_answer job spec start).status ≡ status.Form →
       StandsForNothing IsMachine t ⊎ ((s : Spec) × StandsFor IsMachine t s × StandsForNothing (IsImageOf s) u)
   form_only_run job None u spec start told shown agrees starts is = absurd (cc)
   form_only_run job (Some bytes) u (Err refusal) start told shown agrees starts is =
       inl (nothing_of IsMachine IsMachineOf job.spec bytes refusal (no_machine laws bytes refusal) (came_of IsMachineOf job.spec bytes refusal agrees) is)
-  form_only_run job (Some bytes) None (Ok spec) start told shown agrees starts is = absurd (cc)
+  form_only_run job (Some bytes) None (Ok spec) start told shown agrees starts is =
+      let none = shown spec (record { bytes = bytes; is_told = refl; few = agrees.0; stands = agrees.1 }) in absurd (cc)
   form_only_run job (Some bytes) (Some image) (Ok spec) (Err refusal) told shown agrees starts is =
       inr (
         spec,

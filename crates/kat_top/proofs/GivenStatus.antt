@@ -41,10 +41,10 @@ gave_as wanted given old new answer plain is gave =
     let both = plain_gave wanted old new answer plain (subst (λ s. Gave s old new answer) is gave) in (sym both.0, both.1)
 
 -- a prefix of the text that is owed was written, and but for two statuses the whole
-pub if_plain : (given : Status) (old new : Option (List ℕ)) (answer : Answer) → Gave given old new answer → Grew old new answer.text × IfPlain given (new ≡ with_bytes old answer.text)
+pub if_plain : (given : Status) (old new : Option (List ℕ)) (answer : Answer) → Gave given old new answer → Grew old new answer.text × IfPlain given ((given ≡ answer.status) × (new ≡ with_bytes old answer.text))
 if_plain status.WriteFault old new answer gave = (gave, tt)
 if_plain status.Memory old new answer gave = (gave, tt)
-if_plain given old new answer gave = ((length answer.text, gave.1 ∙ ap (with_bytes old) (sym (take-length answer.text))), gave.1)
+if_plain given old new answer gave = ((length answer.text, gave.1 ∙ ap (with_bytes old) (sym (take-length answer.text))), gave)
 
 pub wrote_prefix : (job : Option Job) (told : Name → Option (List ℕ)) (failed overlong : Type 0) (asked noted : List (Name × ℕ)) (given : Status) (old new : Option (List ℕ)) →
     Answered job told failed overlong asked noted given old new → WrotePrefix job told failed overlong asked noted given old new

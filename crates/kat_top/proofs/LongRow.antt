@@ -55,12 +55,13 @@ module _ (laws : FileLaws) where
   long_only_print name (Some bytes) (Ok spec) told agrees is = absurd (cc)
   long_only_print name (Some bytes) (Err refusal) told agrees is = long_of IsSpecOf name bytes refusal (came_of IsSpecOf name bytes refusal agrees) is
 
-  pub long_only_run : (job : RunJob) (t u : Option (List ℕ)) (spec : Result Spec Refusal) (start : Result MachineState Refusal) → IsSome t → IsSome u →
+  pub long_only_run : (job : RunJob) (t u : Option (List ℕ)) (spec : Result Spec Refusal) (start : Result MachineState Refusal) → IsSome t → ((s : Spec) → StandsFor IsMachine t s → IsSome u) →
       Agrees IsMachineOf t spec → IsStartAsTold spec u start → (job_answer job spec start).status ≡ status.TooLong →
       IsTooLong t ⊎ ((s : Spec) × StandsFor IsMachine t s × IsTooLong u)
   long_only_run job None u spec start told shown agrees starts is = absurd (cc)
   long_only_run job (Some bytes) u (Err refusal) start told shown agrees starts is = inl (long_of IsMachineOf job.spec bytes refusal (came_of IsMachineOf job.spec bytes refusal agrees) is)
-  long_only_run job (Some bytes) None (Ok spec) start told shown agrees starts is = absurd (cc)
+  long_only_run job (Some bytes) None (Ok spec) start told shown agrees starts is =
+      let none = shown spec (record { bytes = bytes; is_told = refl; few = agrees.0; stands = agrees.1 }) in absurd (cc)
   long_only_run job (Some bytes) (Some image) (Ok spec) (Err refusal) told shown agrees starts is =
       inr (
         spec,

@@ -14,7 +14,8 @@ use Rattle.kat_top.specs.Words.{RunJob, Job, Run, Print}
 use Rattle.kat_top.specs.FileLaws.{FileLaws}
 use Rattle.kat_top.specs.Files.{most_bytes, Agrees, IsSpecOf, IsMachineOf, IsStartOf, HasCause}
 use Rattle.kat_top.specs.Answer.{Answer, refusal_of, print_answer, job_answer, answer_of, Gave, IsStartAsTold, IsAnswerFor, Answered, IfWriteFault}
-use Rattle.kat_top.specs.Complete.{ComesOf, IsOwedBy, IsStartOwed, IsOwed, IsAnswer, AreTold, IsGiven, IsComplete}
+use Rattle.kat_top.specs.Complete.{ComesOf, IsOwedBy, IsStartOwed, IsOwed, IsAnswer, IsGiven, IsComplete}
+use Rattle.kat_top.specs.Causes.{StandsFor, IsMachine, AreTold}
 use Rattle.kat_top.proofs.OneOutcome.{IsDecided, one_reading, one_machine, one_start}
 
 -- what came of a file that says nothing of its bytes: a read failed, or memory ran out
@@ -185,10 +186,12 @@ module _ (told : Name → Option (List ℕ)) (failed overlong unwritten : Type 0
       (λ begun. given_owed (Some (Run job)) (Ok spec) start (owed, begun) gave)
       (owed_by (IsStartOf spec) (told job.image) start shown agrees)
 
-  given_from_spec : (job : RunJob) (spec : Result Spec Refusal) (start : Result MachineState Refusal) → IsOwedBy IsMachineOf (told job.spec) spec → IsSome (told job.image) → IsStartAsTold spec (told job.image) start →
+  given_from_spec : (job : RunJob) (spec : Result Spec Refusal) (start : Result MachineState Refusal) → IsOwedBy IsMachineOf (told job.spec) spec →
+      ((s : Spec) → StandsFor IsMachine (told job.spec) s → IsSome (told job.image)) → IsStartAsTold spec (told job.image) start →
       HasCause start failed overlong → Gave given old new (job_answer job spec start) → Given (Some (Run job))
   given_from_spec job (Err refusal) start owed shown agrees cause gave = given_owed (Some (Run job)) (Err refusal) start (owed, tt) gave
-  given_from_spec job (Ok spec) start owed shown agrees cause gave = given_from_start job spec start owed shown agrees cause gave
+  given_from_spec job (Ok spec) start owed shown agrees cause gave =
+      given_from_start job spec start owed (shown spec (record { bytes = owed.bytes; is_told = owed.is_told; few = owed.comes.0; stands = owed.comes.1 })) agrees cause gave
 
   given_told : (job : Option Job) (asked noted : List (Name × ℕ)) (answer : Answer) (is : IsAnswerFor job told failed overlong asked noted answer) →
       Gave given old new (answer_of job is.spec is.start) → AreTold job told → Given job
@@ -197,10 +200,10 @@ module _ (told : Name → Option (List ℕ)) (failed overlong unwritten : Type 0
   given_told (Some (Print name)) asked noted answer is gave shown =
       ⊎_elim (λ undecided. inl (given_memory name (subst (λ s. Gave given old new (print_answer name s)) (undecided_is_memory is.spec failed overlong is.spec_cause never undecided) gave)))
       (λ owed. given_owed (Some (Print name)) is.spec is.start owed gave)
-      (owed_by IsSpecOf (told name) is.spec shown.0 is.as_told)
+      (owed_by IsSpecOf (told name) is.spec shown is.as_told)
   given_told (Some (Run job)) asked noted answer is gave shown =
       ⊎_elim (λ undecided. inl (given_memory job.spec (subst (λ s. Gave given old new (job_answer job s is.start)) (undecided_is_memory is.spec failed overlong is.spec_cause never undecided) gave)))
-      (λ owed. given_from_spec job is.spec is.start owed shown.1.0 is.as_told.1 is.start_cause gave)
+      (λ owed. given_from_spec job is.spec is.start owed shown.1 is.as_told.1 is.start_cause gave)
       (owed_by IsMachineOf (told job.spec) is.spec shown.0 is.as_told.0)
 
 pub complete : FileLaws → (job : Option Job) (told : Name → Option (List ℕ)) (failed overlong unwritten : Type 0) (asked noted : List (Name × ℕ)) (given : Status) (old new : Option (List ℕ)) →

@@ -12,8 +12,7 @@ use Rattle.kat_top.specs.Words.{Job, Run, Print}
 use Rattle.kat_top.specs.FileLaws.{FileLaws}
 use Rattle.kat_top.specs.Files.{most_bytes, CauseOf, HasCause, Noted, ReadsMade, files_of, AddsReads}
 use Rattle.kat_top.specs.Answer.{Answer, refusal_of, print_answer, job_answer, answer_of, Gave, Answered, IfReadFault, IfTooLong}
-use Rattle.kat_top.specs.Complete.{AreTold}
-use Rattle.kat_top.specs.Causes.{HasLongFile, HasNoForm, DoneWith, DoneWhole, ComesExactly}
+use Rattle.kat_top.specs.Causes.{AreTold, HasLongFile, HasNoForm, DoneWith, DoneWhole, ComesExactly}
 use Rattle.kat_top.proofs.Finish.{reads_one, reads_more}
 use Rattle.kat_top.proofs.GivenStatus.{IsOrOutside, given_comes, gave_as, IsDoneStatus, ran_status, done_is_plain, usage_only, if_read_fault, if_too_long}
 use Rattle.kat_top.proofs.FormRow.{form_comes_print, form_comes_run, form_only_print, form_only_run}
@@ -48,22 +47,22 @@ module _ (told : Name → Option (List ℕ)) (failed overlong : Type 0) (asked n
   long_row laws None a = record { comes = λ cause. absurd cause; only = λ told is. let e = (gave_as status.TooLong given old new (answer_of None a.1.spec a.1.start) tt is (gave_of None a)).0 in absurd (cc) }
   long_row laws (Some (Print name)) a = record {
     comes = λ cause. given_comes given status.TooLong old new (print_answer name a.1.spec) (gave_of (Some (Print name)) a) (long_comes_print laws name (told name) a.1.spec cause a.1.as_told);
-    only = λ has is. long_only_print laws name (told name) a.1.spec has.0 a.1.as_told (gave_as status.TooLong given old new (print_answer name a.1.spec) tt is (gave_of (Some (Print name)) a)).0;
+    only = λ has is. long_only_print laws name (told name) a.1.spec has a.1.as_told (gave_as status.TooLong given old new (print_answer name a.1.spec) tt is (gave_of (Some (Print name)) a)).0;
   }
   long_row laws (Some (Run job)) a = record {
     comes = λ cause. given_comes given status.TooLong old new (job_answer job a.1.spec a.1.start) (gave_of (Some (Run job)) a) (long_comes_run laws job (told job.spec) (told job.image) a.1.spec a.1.start cause a.1.as_told.0 a.1.as_told.1);
-    only = λ has is. long_only_run laws job (told job.spec) (told job.image) a.1.spec a.1.start has.0 has.1.0 a.1.as_told.0 a.1.as_told.1 (gave_as status.TooLong given old new (job_answer job a.1.spec a.1.start) tt is (gave_of (Some (Run job)) a)).0;
+    only = λ has is. long_only_run laws job (told job.spec) (told job.image) a.1.spec a.1.start has.0 has.1 a.1.as_told.0 a.1.as_told.1 (gave_as status.TooLong given old new (job_answer job a.1.spec a.1.start) tt is (gave_of (Some (Run job)) a)).0;
   }
 
   pub form_row : FileLaws → (job : Option Job) → Answered job told failed overlong asked noted given old new → ComesExactly (AreTold job told) status.Form given (HasNoForm job told) (HasNoForm job told)
   form_row laws None a = record { comes = λ cause. absurd cause; only = λ told is. let e = (gave_as status.Form given old new (answer_of None a.1.spec a.1.start) tt is (gave_of None a)).0 in absurd (cc) }
   form_row laws (Some (Print name)) a = record {
     comes = λ cause. given_comes given status.Form old new (print_answer name a.1.spec) (gave_of (Some (Print name)) a) (form_comes_print laws name (told name) a.1.spec cause a.1.as_told);
-    only = λ has is. form_only_print laws name (told name) a.1.spec has.0 a.1.as_told (gave_as status.Form given old new (print_answer name a.1.spec) tt is (gave_of (Some (Print name)) a)).0;
+    only = λ has is. form_only_print laws name (told name) a.1.spec has a.1.as_told (gave_as status.Form given old new (print_answer name a.1.spec) tt is (gave_of (Some (Print name)) a)).0;
   }
   form_row laws (Some (Run job)) a = record {
     comes = λ cause. given_comes given status.Form old new (job_answer job a.1.spec a.1.start) (gave_of (Some (Run job)) a) (form_comes_run laws job (told job.spec) (told job.image) a.1.spec a.1.start cause a.1.as_told.0 a.1.as_told.1);
-    only = λ has is. form_only_run laws job (told job.spec) (told job.image) a.1.spec a.1.start has.0 has.1.0 a.1.as_told.0 a.1.as_told.1 (gave_as status.Form given old new (job_answer job a.1.spec a.1.start) tt is (gave_of (Some (Run job)) a)).0;
+    only = λ has is. form_only_run laws job (told job.spec) (told job.image) a.1.spec a.1.start has.0 has.1 a.1.as_told.0 a.1.as_told.1 (gave_as status.Form given old new (job_answer job a.1.spec a.1.start) tt is (gave_of (Some (Run job)) a)).0;
   }
 
   pub done_comes : FileLaws → (wanted : Status) (job : Option Job) → Answered job told failed overlong asked noted given old new → DoneWith wanted job told → IsOrOutside wanted given
@@ -81,11 +80,11 @@ module _ (told : Name → Option (List ℕ)) (failed overlong : Type 0) (asked n
       absurd (subst IsDoneStatus (sym gave.0) done)
   done_only wanted (Some (Print name)) done a has is =
       let gave = gave_as wanted given old new (print_answer name a.1.spec) (done_is_plain wanted done) is (gave_of (Some (Print name)) a) in
-      let found = done_only_print name (told name) a.1.spec has.0 a.1.as_told (subst IsDoneStatus (sym gave.0) done) in
+      let found = done_only_print name (told name) a.1.spec has a.1.as_told (subst IsDoneStatus (sym gave.0) done) in
       (print_answer name a.1.spec, (found.0, found.1, found.2), gave.0, gave.1)
   done_only wanted (Some (Run job)) done a has is =
       let gave = gave_as wanted given old new (job_answer job a.1.spec a.1.start) (done_is_plain wanted done) is (gave_of (Some (Run job)) a) in
-      let found = done_only_run job (told job.spec) (told job.image) a.1.spec a.1.start has.0 has.1.0 a.1.as_told.0 a.1.as_told.1 (subst IsDoneStatus (sym gave.0) done) in
+      let found = done_only_run job (told job.spec) (told job.image) a.1.spec a.1.start has.0 has.1 a.1.as_told.0 a.1.as_told.1 (subst IsDoneStatus (sym gave.0) done) in
       (job_answer job a.1.spec a.1.start, (found.0, found.1, found.2, found.3, found.4), gave.0, gave.1)
 
   pub done_row : FileLaws → (wanted : Status) (job : Option Job) → IsDoneStatus wanted → Answered job told failed overlong asked noted given old new →

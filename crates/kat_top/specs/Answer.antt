@@ -118,10 +118,11 @@ IfPlain status.WriteFault P = Unit {0}
 IfPlain status.Memory P = Unit {0}
 IfPlain _ P = P
 
--- a prefix of the text of an answer that is owed was written, and the whole unless a write failed or memory ran out
+-- a prefix of the text of an answer that is owed was written; unless a write failed or memory ran out, the status is the
+-- answer's and the whole text was written
 abbrev pub WrotePrefix : Option Job → (Name → Option (List ℕ)) → (failed overlong : Type 0) → (asked noted : List (Name × ℕ)) → Status → Option (List ℕ) → Option (List ℕ) → Type 0
 WrotePrefix job told failed overlong asked noted given old new =
-    (answer : Answer) × IsAnswerFor job told failed overlong asked noted answer × Grew old new answer.text × IfPlain given (new ≡ with_bytes old answer.text)
+    (answer : Answer) × IsAnswerFor job told failed overlong asked noted answer × Grew old new answer.text × IfPlain given ((given ≡ answer.status) × (new ≡ with_bytes old answer.text))
 
 -- a fact for the status of a write that failed
 abbrev pub IfWriteFault : Status → Type 0 → Type 0

@@ -1,5 +1,5 @@
 -- Where each status comes, by what the bytes of the files stand for.
-use Rattle.std.specs.Prelude.{◌≡◌, ◌≤◌, ◌<◌, ◌⊎◌, ℕ, List, length, Option, Some, None, Ok}
+use Rattle.std.specs.Prelude.{◌≡◌, ◌≤◌, ◌<◌, ◌⊎◌, ℕ, List, length, Option, Some, None, IsSome, Ok}
 use Rattle.kat_io.specs.Contents.{with_bytes}
 use Rattle.kat_syntax.specs.declared.decl.Spec.{Spec}
 use Rattle.kat_syntax.specs.Tables.{Name}
@@ -12,7 +12,6 @@ use Rattle.kat_top.specs.declared.status.Status.TheVariants as status
 use Rattle.kat_top.specs.Words.{Job, Run, Print}
 use Rattle.kat_top.specs.Files.{most_bytes}
 use Rattle.kat_top.specs.Answer.{Answer, run_answer_of, print_answer}
-use Rattle.kat_top.specs.Complete.{AreTold}
 
 -- the bytes of a file are told, they are at most as many as are read, and they stand for this
 pub record StandsFor {A : Type 0} (Stands : List ℕ → A → Type 0) (told : Option (List ℕ)) (it : A) : Type 0 where
@@ -37,6 +36,12 @@ pub record IsTooLong (told : Option (List ℕ)) : Type 0 where
 -- bytes stand for a machine: for a specification that can be run
 abbrev pub IsMachine : List ℕ → Spec → Type 0
 IsMachine bytes spec = Reads bytes spec × IsFirstForm spec
+
+-- the files of a job tell their bytes; the image's are asked for only where the specification's stand for a machine
+abbrev pub AreTold : Option Job → (Name → Option (List ℕ)) → Type 0
+AreTold None told = Unit {0}
+AreTold (Some (Print name)) told = IsSome (told name)
+AreTold (Some (Run job)) told = IsSome (told job.spec) × ((spec : Spec) → StandsFor IsMachine (told job.spec) spec → IsSome (told job.image))
 
 -- the specification's bytes are too many; or they stand for a machine, and the image's are too many
 abbrev pub HasLongFile : Option Job → (Name → Option (List ℕ)) → Type 0

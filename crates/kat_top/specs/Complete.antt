@@ -1,6 +1,5 @@
 -- Where nothing outside fails, the answer is owed: what the files stand for is told, and then no answer but it may come.
-use Rattle.std.specs.Prelude.{◌≡◌, ◌≤◌, ◌<◌, ◌⊎◌, ℕ, List, length, Option, Some, None, IsSome, Result, Ok, Err}
-use Rattle.std.specs.List.{AllByRecursion}
+use Rattle.std.specs.Prelude.{◌≡◌, ◌≤◌, ◌<◌, ◌⊎◌, ℕ, List, length, Option, Some, None, Result, Ok, Err}
 use Rattle.kat_io.specs.Contents.{with_bytes}
 use Rattle.kat_syntax.specs.declared.decl.Spec.{Spec}
 use Rattle.kat_syntax.specs.Tables.{Name}
@@ -10,10 +9,11 @@ use Rattle.kat_top.specs.declared.status.Status.TheVariants as status
 use Rattle.kat_top.specs.declared.refusal.Refusal.{Refusal}
 use Rattle.kat_top.specs.declared.refusal.Refusal.TheVariants.{Failed, Long, Memory}
 use Rattle.kat_top.specs.Words.{Job, Run, Print}
-use Rattle.kat_top.specs.Files.{most_bytes, IsSpecOf, IsMachineOf, IsStartOf, files_of}
+use Rattle.kat_top.specs.Files.{most_bytes, IsSpecOf, IsMachineOf, IsStartOf}
 use Rattle.kat_top.specs.Answer.{Answer, answer_of, Gave}
+use Rattle.kat_top.specs.Causes.{AreTold}
 
--- what comes of the bytes of a file by themselves: they are more than are read, or this is so of what they stand for
+-- what the bytes of a file come to by themselves: they are more than are read, or P holds of them and of the outcome
 abbrev pub ComesOf : {A : Type 0} → (List ℕ → Result A Refusal → Type 0) → List ℕ → Result A Refusal → Type 0
 ComesOf P bytes (Err Failed) = ⊥
 ComesOf P bytes (Err Memory) = ⊥
@@ -40,10 +40,6 @@ IsOwed (Some (Print name)) told spec start = IsOwedBy IsSpecOf (told name) spec
 -- the answer that is owed to a job where nothing outside fails, by the bytes that are told of its files
 abbrev pub IsAnswer : Option Job → (Name → Option (List ℕ)) → Answer → Type 0
 IsAnswer job told answer = (spec : Result Spec Refusal) × (start : Result MachineState Refusal) × IsOwed job told spec start × (answer ≡ answer_of job spec start)
-
--- the files of a job tell their bytes
-abbrev pub AreTold : Option Job → (Name → Option (List ℕ)) → Type 0
-AreTold job told = AllByRecursion (λ (name : Name). IsSome (told name)) (files_of job)
 
 -- the status and the whole text are those of an answer
 pub record IsGiven (answer : Answer) (given : Status) (old new : Option (List ℕ)) : Type 0 where

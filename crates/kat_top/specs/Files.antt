@@ -19,8 +19,8 @@ use Rattle.kat_top.specs.declared.refusal.Refusal.TheVariants.{Failed, Long, Tre
 abbrev pub most_bytes : ℕ
 most_bytes = 4194304
 
--- What came of a file agrees with what is told of its bytes: a file is too long exactly where they are more than may be
--- read, and of others this is so of what came of them. Where a read failed or memory ran out nothing is said
+-- What came of a file agrees with what is told of its bytes: it was too long exactly where they are more than are read,
+-- and else P holds of them and of what came. Where a read failed or memory ran out nothing is said
 abbrev pub Agrees : {A : Type 0} → (List ℕ → Result A Refusal → Type 0) → Option (List ℕ) → Result A Refusal → Type 0
 Agrees P told (Err Failed) = Unit {0}
 Agrees P told (Err Memory) = Unit {0}

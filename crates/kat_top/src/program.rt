@@ -146,10 +146,10 @@ pub fn top<F: Files, K: Sink>(alloc: Global, words: &[String], files: &mut F, ou
     // The words are those of no job.
     ensures usage { ComesExactly ⊤ Status.Usage result (asked words.now ≡ None) (asked words.now ≡ None) }
 
-    // A file has more bytes than are read.
-    ensures too_long { LongComes (asked words.now) (F.told files.old) result }
+    // A file of the job has more bytes than are read, and none before it was refused.
+    ensures long { LongComes (asked words.now) (F.told files.old) result }
 
-    // The bytes stand for no specification that the job can treat, or for no image of its machine.
+    // The bytes of a file, none before it being refused, stand for no specification that the job can treat, or for no image.
     ensures form { FormComes (asked words.now) (F.told files.old) result }
 
     // A cycle of the run makes a call with none left.
@@ -164,7 +164,7 @@ pub fn top<F: Files, K: Sink>(alloc: Global, words: &[String], files: &mut F, ou
     // A fault comes only where the count of what was handed in rose.
     ensures write { IfWriteFault result (Rose (K.faults out.old) (K.faults out.new)) }
     ensures read { IfReadFault result (Rose (F.faults files.old) (F.faults files.new)) }
-    ensures long { IfTooLong result (Rose (F.overlong files.old) (F.overlong files.new)) }
+    ensures overlong_rose { IfTooLong result (Rose (F.overlong files.old) (F.overlong files.new)) }
 
     // What the files tell stays, and no count falls.
     ensures told { F.told files.new ≡ F.told files.old }

@@ -23,13 +23,14 @@ pub record IsFinished (lexemes : List Lexeme) : Type 0 where
   pub whole : lexemes ≡ lexemes_of tree
   pub shallow : nesting tree ≤ 64
 
--- how many brackets open, and how many close
+-- how many brackets open
 abbrev pub openings : List Lexeme → ℕ
 openings [] = 0
 openings (Opening ∷ lexemes) = openings lexemes + 1
 openings (Closing ∷ lexemes) = openings lexemes
 openings (Leaf token ∷ lexemes) = openings lexemes
 
+-- how many brackets close
 abbrev pub closings : List Lexeme → ℕ
 closings [] = 0
 closings (Opening ∷ lexemes) = closings lexemes

@@ -16,6 +16,7 @@ use Rattle.kat_tree.specs.declared.reader.Reader.{Reader}
 use Rattle.kat_tree.specs.Character.{is_blank, begins_word}
 use Rattle.kat_tree.specs.Number.{word_number}
 
+-- goes on from what was read
 infixl 10 ◌>>=◌
 abbrev pub ◌>>=◌ : {A B : Type 0} → Result A TreeError → (A → Result B TreeError) → Result B TreeError
 (Ok x) >>= f = f x
@@ -97,6 +98,7 @@ stepped_in at (Word from word) progress c =
     if is_xid_continue c then Ok (record { mode = Word from (word ++ c ∷ []); progress = progress })
     else (with_word from word progress >>= λ p. begun at p c)
 
+-- one character more
 abbrev pub stepped : ℕ → Reader → ℕ → Result Reader TreeError
 stepped at reader c = stepped_in at reader.mode reader.progress c
 
@@ -106,6 +108,7 @@ ended_in at Between progress = finished at progress
 ended_in at Comment progress = finished at progress
 ended_in at (Word from word) progress = with_word from word progress >>= λ p. finished at p
 
+-- the text's end
 abbrev pub ended : ℕ → Reader → Result Tree TreeError
 ended at reader = ended_in at reader.mode reader.progress
 

@@ -13,8 +13,8 @@ returns-clause-prefix g c = wrote_prefix _ _ _ _ _ _ _ _ _ c.answered.ensures.an
 pub returns-clause-usage : goal.returns-clause-usage
 returns-clause-usage g c = usage_row _ _ _ _ _ _ _ _ _ c.answered.ensures.answer
 
-pub returns-clause-too_long : goal.returns-clause-too_long
-returns-clause-too_long g c = long_row _ _ _ _ _ _ _ _ c.file_laws.ensures _ c.answered.ensures.answer
+pub returns-clause-long : goal.returns-clause-long
+returns-clause-long g c = long_row _ _ _ _ _ _ _ _ c.file_laws.ensures _ c.answered.ensures.answer
 
 pub returns-clause-form : goal.returns-clause-form
 returns-clause-form g c = form_row _ _ _ _ _ _ _ _ c.file_laws.ensures _ c.answered.ensures.answer
@@ -31,8 +31,8 @@ returns-clause-ok g c = done_row _ _ _ _ _ _ _ _ c.file_laws.ensures status.Ok _
 pub returns-clause-read : goal.returns-clause-read
 returns-clause-read g c = read_row _ _ _ _ _ _ _ _ _ c.answered.ensures.answer
 
-pub returns-clause-long : goal.returns-clause-long
-returns-clause-long g c = overlong_row _ _ _ _ _ _ _ _ _ c.answered.ensures.answer
+pub returns-clause-overlong_rose : goal.returns-clause-overlong_rose
+returns-clause-overlong_rose g c = overlong_row _ _ _ _ _ _ _ _ _ c.answered.ensures.answer
 
 pub returns-clause-reads : goal.returns-clause-reads
 returns-clause-reads g c = reads_row _ _ _ _ _ _ _ _ _ c.answered.ensures.answer
