@@ -73,6 +73,7 @@ impl StmEnd {
             end => end,
         }
     }
+
     /// The end of a part that stands behind others, as an end of the form.
     pub fn behind(self, before: Before<'_>) -> StmEnd
         requires { IsBelow (2 ^ 32) (trees_before before) self }
