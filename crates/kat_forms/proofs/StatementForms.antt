@@ -27,7 +27,7 @@ use Rattle.kat_forms.specs.Fits.{Judged, judged, list_fits}
 use Rattle.kat_forms.specs.Parts.{Fits, is_naming}
 use Rattle.kat_forms.proofs.Rebuilt.{At, Begins, form_of}
 use Rattle.kat_forms.proofs.Lists.{both}
-use Rattle.kat_forms.proofs.PartsFit.{many_fit, rest_fit, exact_fit, part_fit, rest_less}
+use Rattle.kat_forms.proofs.PartsFit.{many_fit, rest_fit, exact_fit, part_fit, rest_among, rest_less}
 use Rattle.kat_forms.proofs.Checking.{count_of_parts}
 
 -- a statement that is written as this tree and has the form of one
@@ -238,3 +238,7 @@ counts_judged (t ∷ parts) =
 -- the parts from a place on have fewer than the whole
 pub fewer : (tree : Tree) (parts rest : List Tree) (k : ℕ) → tree ≡ variant.List parts → rest ≡ drop k parts → counts rest < (judged tree).count
 fewer tree parts rest k is same = omega (arith, counts_judged rest, rest_less tree parts rest k is same)
+
+-- and no more than all of them
+pub no_more : (parts rest : List Tree) (k : ℕ) → rest ≡ drop k parts → counts rest ≤ count_of_parts (map judged parts)
+no_more parts rest k same = omega (arith, counts_judged rest, rest_among parts rest k same)

@@ -175,24 +175,8 @@ pub(crate) fn stm_in(tree: &Tree, alloc: Global) -> Result<Stm, AllocError>
                 otherwise: Boxed::new(alloc, stm_in(no, alloc)?)?,
             })
         }
-        StmHead::Case => {
-            let [_, cased, cases @ ..] = parts else {
-                unreachable!()
-            };
-            Ok(Stm::Case {
-                value: expr_in(cased, alloc)?,
-                arms: case_arms_in(cases, alloc)?,
-            })
-        }
-        StmHead::Match => {
-            let [_, matched, matches @ ..] = parts else {
-                unreachable!()
-            };
-            Ok(Stm::Match {
-                value: expr_in(matched, alloc)?,
-                arms: match_arms_in(matches, alloc)?,
-            })
-        }
+        StmHead::Case => case_in(parts, alloc),
+        StmHead::Match => match_in(parts, alloc),
         _ => naming_stm_in(head, parts, alloc),
     }
 }
@@ -208,6 +192,38 @@ pub(crate) fn stms_in(trees: &[Tree], alloc: Global) -> Result<Items<Stm>, Alloc
         stms.push(stm_in(tree, alloc)?)?;
     }
     Ok(stms)
+}
+
+// A statement `(case E (A S) ..)`.
+#[cycle(stm)]
+fn case_in(parts: &[Tree], alloc: Global) -> Result<Stm, AllocError>
+    requires word { first_word (map judged parts.now) ≡ Some (word_of_stm StmHead.Case) }
+    requires fit { list_fits (sorts_of (shape_of_stm StmHead.Case) (length parts.now)) (map judged parts.now) ≡ true }
+    ensures { IfOk result (λ s. (tree_of_stm s ≡ variant.List parts.now) × (is_formed_stm s ≡ true)) }
+{
+    let [_, cased, cases @ ..] = parts else {
+        unreachable!()
+    };
+    Ok(Stm::Case {
+        value: expr_in(cased, alloc)?,
+        arms: case_arms_in(cases, alloc)?,
+    })
+}
+
+// A statement `(match E (K x S) ..)`.
+#[cycle(stm)]
+fn match_in(parts: &[Tree], alloc: Global) -> Result<Stm, AllocError>
+    requires word { first_word (map judged parts.now) ≡ Some (word_of_stm StmHead.Match) }
+    requires fit { list_fits (sorts_of (shape_of_stm StmHead.Match) (length parts.now)) (map judged parts.now) ≡ true }
+    ensures { IfOk result (λ s. (tree_of_stm s ≡ variant.List parts.now) × (is_formed_stm s ≡ true)) }
+{
+    let [_, matched, matches @ ..] = parts else {
+        unreachable!()
+    };
+    Ok(Stm::Match {
+        value: expr_in(matched, alloc)?,
+        arms: match_arms_in(matches, alloc)?,
+    })
 }
 
 // The arms `(A S)` that trees are.

@@ -1,4 +1,4 @@
-use Rattle.std.proofs.Common.{◌+◌, ◌∷◌, [], ap, sym, subst, ◌∙◌, arith}
+use Rattle.std.proofs.Common.{◌+◌, ◌∷◌, [], refl, ap, sym, subst, ◌∙◌, arith}
 use Rattle.kat_tree.specs.declared.tree.Tree.TheVariants as variant
 use Rattle.kat_syntax.specs.Written.{tree_of_stm}
 use Rattle.kat_syntax.specs.Formed.{is_formed_stm}
@@ -6,7 +6,7 @@ use Rattle.kat_forms.specs.declared.sort.Sort.TheVariants as sort
 use Rattle.kat_forms.proofs.Rebuilt.{next, nothing, others}
 use Rattle.kat_forms.proofs.Lists.{SoFar, one_more}
 use Rattle.kat_forms.proofs.PartsFit.{part_less}
-use Rattle.kat_forms.proofs.StatementForms.{made-Let, made-Seq, made-If, made-Case, made-Match, rest_is, others_fit, seq_fit, seq_long, part_fits, fewer, case_tree, case_formed, case_made, match_tree, match_formed, match_made}
+use Rattle.kat_forms.proofs.StatementForms.{made-Let, made-Seq, made-If, made-Case, made-Match, rest_is, others_fit, seq_fit, seq_long, part_fits, fewer, no_more, case_tree, case_formed, case_made, match_tree, match_formed, match_made}
 use Rattle.kat_forms.proofs.statements.+stm.Goals as goal
 
 pub stm_in-stm_in-requires : goal.stm_in-stm_in-requires
@@ -47,17 +47,15 @@ stm_in-stms_in-requires t c =
     let is = c.in-List.is ∙ ap variant.List (sym c.as_slice-parts.ensures) in
     (omega (arith, c.decreases, fewer c.args.tree.now parts _ 1 is (rest_is parts 1)), seq_fit parts c.in-Seq.ensures.fit)
 
-pub stm_in-case_arms_in-requires : goal.stm_in-case_arms_in-requires
-stm_in-case_arms_in-requires t c =
-    let parts = c.as_slice-parts.result.now in
-    let is = c.in-List.is ∙ ap variant.List (sym c.as_slice-parts.ensures) in
-    (omega (arith, c.decreases, fewer c.args.tree.now parts _ 2 is (rest_is parts 2)), others_fit (sort.Word ∷ sort.Expression ∷ []) sort.CaseArm parts c.in-Case.ensures.fit)
+pub case_in-case_arms_in-requires : goal.case_in-case_arms_in-requires
+case_in-case_arms_in-requires t c =
+    let parts = c.args.parts.now in
+    (omega (arith, c.decreases, no_more parts _ 2 (rest_is parts 2)), others_fit (sort.Word ∷ sort.Expression ∷ []) sort.CaseArm parts c.requires.fit)
 
-pub stm_in-match_arms_in-requires : goal.stm_in-match_arms_in-requires
-stm_in-match_arms_in-requires t c =
-    let parts = c.as_slice-parts.result.now in
-    let is = c.in-List.is ∙ ap variant.List (sym c.as_slice-parts.ensures) in
-    (omega (arith, c.decreases, fewer c.args.tree.now parts _ 2 is (rest_is parts 2)), others_fit (sort.Word ∷ sort.Expression ∷ []) sort.MatchArm parts c.in-Match.ensures.fit)
+pub match_in-match_arms_in-requires : goal.match_in-match_arms_in-requires
+match_in-match_arms_in-requires t c =
+    let parts = c.args.parts.now in
+    (omega (arith, c.decreases, no_more parts _ 2 (rest_is parts 2)), others_fit (sort.Word ∷ sort.Expression ∷ []) sort.MatchArm parts c.requires.fit)
 
 pub stm_in-returns-in_ok-new-in-Let-2 : goal.stm_in-returns-in_ok-new-in-Let-2
 stm_in-returns-in_ok-new-in-Let-2 t c =
@@ -89,23 +87,21 @@ stm_in-returns-in_ok-stms_in-in-Seq t c =
     (others parts _ 1 _ (rest_is parts 1) c.in_ok-stms_in-in-Seq.ensures.0)
     c.in_ok-stms_in-in-Seq.ensures.1
 
-pub stm_in-returns-in_ok-case_arms_in-in-Case : goal.stm_in-returns-in_ok-case_arms_in-in-Case
-stm_in-returns-in_ok-case_arms_in-in-Case t c =
-    let parts = c.as_slice-parts.result.now in
-    let is = c.in-List.is ∙ ap variant.List (sym c.as_slice-parts.ensures) in
-    made-Case c.args.tree.now parts _ _ (record { is = is; word = c.in-Case.ensures.word })
-    (next parts 1 c.cased-item.result _ _ (omega arith) c.cased-item.is (c.in_ok-expr_in-in-Case.ensures.0)
-    (others parts _ 2 _ (rest_is parts 2) c.in_ok-case_arms_in-in-Case.ensures.tree))
-    c.in_ok-expr_in-in-Case.ensures.1 c.in_ok-case_arms_in-in-Case.ensures.formed
+pub case_in-returns : goal.case_in-returns
+case_in-returns t c =
+    let parts = c.args.parts.now in
+    made-Case _ parts _ _ (record { is = refl; word = c.requires.word })
+    (next parts 1 c.cased-item.result _ _ (omega arith) c.cased-item.is c.in_ok-expr_in.ensures.0
+    (others parts _ 2 _ (rest_is parts 2) c.in_ok-case_arms_in.ensures.tree))
+    c.in_ok-expr_in.ensures.1 c.in_ok-case_arms_in.ensures.formed
 
-pub stm_in-returns-in_ok-match_arms_in-in-Match : goal.stm_in-returns-in_ok-match_arms_in-in-Match
-stm_in-returns-in_ok-match_arms_in-in-Match t c =
-    let parts = c.as_slice-parts.result.now in
-    let is = c.in-List.is ∙ ap variant.List (sym c.as_slice-parts.ensures) in
-    made-Match c.args.tree.now parts _ _ (record { is = is; word = c.in-Match.ensures.word })
-    (next parts 1 c.matched-item.result _ _ (omega arith) c.matched-item.is (c.in_ok-expr_in-in-Match.ensures.0)
-    (others parts _ 2 _ (rest_is parts 2) c.in_ok-match_arms_in-in-Match.ensures.tree))
-    c.in_ok-expr_in-in-Match.ensures.1 c.in_ok-match_arms_in-in-Match.ensures.formed
+pub match_in-returns : goal.match_in-returns
+match_in-returns t c =
+    let parts = c.args.parts.now in
+    made-Match _ parts _ _ (record { is = refl; word = c.requires.word })
+    (next parts 1 c.matched-item.result _ _ (omega arith) c.matched-item.is c.in_ok-expr_in.ensures.0
+    (others parts _ 2 _ (rest_is parts 2) c.in_ok-match_arms_in.ensures.tree))
+    c.in_ok-expr_in.ensures.1 c.in_ok-match_arms_in.ensures.formed
 
 pub stms_in-loop-tree-preserved : goal.stms_in-loop-tree-preserved
 stms_in-loop-tree-preserved t c =

@@ -1,23 +1,30 @@
-use Rattle.std.proofs.Common.{◌+◌, ◌*◌}
+use Rattle.std.proofs.Common.{◌+◌, ◌*◌, map}
 use Rattle.kat_syntax.specs.Written.{tree_of_stm}
 use Rattle.kat_syntax.specs.Formed.{is_formed_stm}
 use Rattle.kat_forms.specs.Fits.{judged}
+use Rattle.kat_forms.proofs.Checking.{count_of_parts}
 use Rattle.kat_forms.proofs.Lists.{SoFar}
 use Rattle.kat_forms.proofs.StatementForms.{case_tree, case_formed, match_tree, match_formed, counts}
 use Rattle.kat_forms.proofs.statements.+stm.Given as goal
 
--- each part of a tree has fewer trees than the whole
+-- a tree comes before its parts, and parts side by side before each of them
 abbrev pub decreases-stm_in : goal.decreases-stm_in
-decreases-stm_in l = 2 * (judged l.tree.now).count
+decreases-stm_in l = 3 * (judged l.tree.now).count
+
+abbrev pub decreases-case_in : goal.decreases-case_in
+decreases-case_in l = 3 * count_of_parts (map judged l.parts.now) + 2
+
+abbrev pub decreases-match_in : goal.decreases-match_in
+decreases-match_in l = 3 * count_of_parts (map judged l.parts.now) + 2
 
 abbrev pub decreases-stms_in : goal.decreases-stms_in
-decreases-stms_in l = 2 * counts l.trees.now + 1
+decreases-stms_in l = 3 * counts l.trees.now + 1
 
 abbrev pub decreases-case_arms_in : goal.decreases-case_arms_in
-decreases-case_arms_in l = 2 * counts l.trees.now + 1
+decreases-case_arms_in l = 3 * counts l.trees.now + 1
 
 abbrev pub decreases-match_arms_in : goal.decreases-match_arms_in
-decreases-match_arms_in l = 2 * counts l.trees.now + 1
+decreases-match_arms_in l = 3 * counts l.trees.now + 1
 
 abbrev pub invariant-stms_in-loop-tree : goal.invariant-stms_in-loop-tree
 invariant-stms_in-loop-tree l = SoFar tree_of_stm is_formed_stm l.trees l.stms l.tree-index
