@@ -13,10 +13,4 @@ mod statements;
 mod types;
 
 pub use law::{one_text, reads_back};
-pub use print::{
-    print_spec, push_assertion, push_decl, push_expr, push_params, push_spec, push_stm, push_type,
-};
-pub use printed::Printed;
-
-#[cfg(test)]
-mod tests;
+pub use print::print_spec;

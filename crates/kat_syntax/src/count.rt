@@ -3,10 +3,9 @@
 // greatest u32, which no declaration comes near.
 
 ghost use Rattle.std.specs.Prelude.{◌≡◌};
-ghost use Rattle.kat_syntax.specs.Trees.{capped, numbers_of_op, trees_of_expr, trees_of_exprs, trees_of_stm, trees_of_stms, trees_of_case_arms, trees_of_match_arms, trees_of_type, trees_of_params, trees_of_assertion, trees_of_phase, trees_of_when, trees_of_decl};
+ghost use Rattle.kat_syntax.specs.Trees.{capped, numbers_of_op, trees_of_expr, trees_of_exprs, trees_of_stm, trees_of_stms, trees_of_case_arms, trees_of_match_arms, trees_of_type, trees_of_params};
 
-use crate::assertion::Assertion;
-use crate::decl::{DeclForm, Param, Phase, TypeName, When};
+use crate::decl::{Param, TypeName};
 use crate::expr::Expr;
 use crate::stm::{CaseArm, MatchArm, Stm};
 use kat_value::Op;
@@ -154,57 +153,4 @@ pub(crate) fn count_params(params: &[Param]) -> u32
         total = total.saturating_add(count_type(&param.ty) + 2);
     }
     total
-}
-
-/// The trees of an assertion.
-pub(crate) fn count_assertion(assertion: &Assertion) -> u32
-    ensures { result ≡ capped (trees_of_assertion assertion.now) }
-{
-    match assertion {
-        Assertion::Pure(value) => count_expr(value).saturating_add(2),
-        Assertion::Register { value, .. } => count_expr(value).saturating_add(3),
-        Assertion::Cell { index, value } => count_expr(index)
-            .saturating_add(count_expr(value))
-            .saturating_add(2),
-        Assertion::Star(parts) => {
-            let mut total: u32 = 2;
-            for part in parts.as_slice() {
-                total = total.saturating_add(count_assertion(part));
-            }
-            total
-        }
-        Assertion::If {
-            test,
-            then,
-            otherwise,
-        } => count_expr(test)
-            .saturating_add(count_assertion(then.get()))
-            .saturating_add(count_assertion(otherwise.get()))
-            .saturating_add(2),
-        Assertion::Exists { ty, body, .. } => count_assertion(body.get())
-            .saturating_add(count_type(ty))
-            .saturating_add(4),
-        Assertion::Predicate { args, .. } | Assertion::Region { args, .. } => {
-            count_exprs(args.as_slice()).saturating_add(3)
-        }
-    }
-}
-
-// The trees of a phase.
-fn count_phase(phase: &Phase) -> u32
-    ensures { result ≡ trees_of_phase phase.now }
-{
-    match phase {
-        Phase::Block(_) => 3,
-        _ => 1,
-    }
-}
-
-/// The trees of a case of the dispatch.
-pub(crate) fn count_when(case: &When) -> u32
-    ensures { result ≡ capped (trees_of_when case.now) }
-{
-    count_expr(&case.test)
-        .saturating_add(count_phase(&case.phase))
-        .saturating_add(2)
 }
