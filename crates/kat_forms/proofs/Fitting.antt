@@ -1,8 +1,7 @@
 -- The tree of a form fits it: the parts of each kind, and the lists that they make.
-use Rattle.std.proofs.Common.{◌≡◌, ℕ, Bool, if◌then◌else◌, ◌+◌, ◌-◌, ◌==◌, ◌<◌, ◌≤◌, List, [], ◌∷◌, ◌++◌, ◌&&◌, length, map, Option, Some, None, true, false, zero, suc, refl, ap, sym, ◌∙◌, arith, append-nil}
-use Rattle.std.specs.Prelude.{codes, replicate, nat_le}
-use Rattle.std.specs.Option.{option_map, option_and_then}
-use Rattle.std.specs.Str.{bytes_eq}
+use Rattle.std.proofs.Common.{◌≡◌, ℕ, ◌+◌, ◌-◌, List, [], ◌∷◌, ◌++◌, length, map, Option, Some, true, refl, ap, sym, ◌∙◌, arith, append-nil}
+use Rattle.std.specs.Prelude.{replicate}
+use Rattle.std.specs.Option.{option_and_then}
 use Rattle.std.proofs.lemmas.Bool.{le-leb}
 use Rattle.std.proofs.lemmas.List.{length-map}
 use Rattle.kat_tree.specs.declared.tree.Token.{Token}
@@ -12,12 +11,11 @@ use Rattle.kat_tree.specs.declared.tree.Tree.TheVariants as variant
 use Rattle.kat_tree.specs.declared.tree.Tree.TheVariants.{rolls-Atom, rolls-List}
 use Rattle.kat_tree.specs.declared.tree.Tree.TheOpen.{Tree-F}
 use Rattle.kat_tree.specs.declared.tree.Tree.TheFolds.{fold-roll-Tree}
-use Rattle.kat_syntax.specs.Formed.{is_name, every}
-use Rattle.kat_syntax.specs.Written.{word, number, form}
+use Rattle.kat_syntax.specs.Written.{word, form}
 use Rattle.kat_forms.specs.declared.sort.Sort.{Sort}
 use Rattle.kat_forms.specs.declared.sort.Sort.TheVariants as sort
-use Rattle.kat_forms.specs.Shapes.{Shape, exactly, many, shape_of, middles, sorts_of}
-use Rattle.kat_forms.specs.Fits.{Judged, judged, judged_in, fits_token, name_of, first_word, sorts_for, all_fit, list_fits, fits}
+use Rattle.kat_forms.specs.Shapes.{Shape, exactly, many, shape_of, sorts_of}
+use Rattle.kat_forms.specs.Fits.{Judged, judged, judged_in, fits_token, first_word, all_fit, list_fits, fits}
 
 judged-Atom : (t : Token) → judged (variant.Atom t) ≡ judged_in (Tree-F.Atom t)
 judged-Atom t = ap judged (sym (rolls-Atom t)) ∙ fold-roll-Tree Judged judged_in (Tree-F.Atom t)

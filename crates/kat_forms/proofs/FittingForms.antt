@@ -11,18 +11,15 @@ use Rattle.kat_value.specs.declared.op.Op.{Op}
 use Rattle.kat_value.specs.declared.op.Op.TheVariants as op
 use Rattle.kat_syntax.specs.declared.expr.Expr.{Expr}
 use Rattle.kat_syntax.specs.declared.expr.Expr.TheOpen as expr
-use Rattle.kat_syntax.specs.declared.expr.Expr.TheViews.{roll-Expr}
 use Rattle.kat_syntax.specs.declared.expr.Expr.TheFolds.{map-Expr, fold-roll-Expr, ind-Expr}
 use Rattle.kat_syntax.specs.declared.stm.Stm.{Stm}
 use Rattle.kat_syntax.specs.declared.stm.CaseArm.{CaseArm}
 use Rattle.kat_syntax.specs.declared.stm.MatchArm.{MatchArm}
 use Rattle.kat_syntax.specs.declared.stm.Stm.TheOpen as stm
 use Rattle.kat_syntax.specs.declared.stm.Stm.TheShapes.{former-Stm-Case-1-at-2 as case_arm, former-Stm-Match-1-at-3 as match_arm}
-use Rattle.kat_syntax.specs.declared.stm.Stm.TheViews.{roll-Stm}
 use Rattle.kat_syntax.specs.declared.stm.Stm.TheFolds.{map-Stm, fold-roll-Stm, ind-Stm}
 use Rattle.kat_syntax.specs.declared.assertion.Assertion.{Assertion}
 use Rattle.kat_syntax.specs.declared.assertion.Assertion.TheOpen as assertion
-use Rattle.kat_syntax.specs.declared.assertion.Assertion.TheViews.{roll-Assertion}
 use Rattle.kat_syntax.specs.declared.assertion.Assertion.TheFolds.{map-Assertion, fold-roll-Assertion, ind-Assertion}
 use Rattle.kat_syntax.specs.declared.decl.TypeName.{TypeName}
 use Rattle.kat_syntax.specs.declared.decl.TypeName.TheVariants as type

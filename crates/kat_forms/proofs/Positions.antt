@@ -1,13 +1,13 @@
 -- The sort at a position of a shape.
-use Rattle.std.proofs.Common.{◌≡◌, ◌≢◌, ℕ, ◌+◌, ◌-◌, ◌<◌, ◌≤◌, List, [], ◌∷◌, ◌++◌, length, get_or, Option, Some, None, true, refl, ap, ◌∙◌, arith, length-append}
-use Rattle.std.specs.Prelude.{replicate, slice_get, nat_le}
+use Rattle.std.proofs.Common.{◌≡◌, ℕ, ◌+◌, ◌-◌, ◌<◌, ◌≤◌, List, [], ◌++◌, length, get_or, Option, Some, None, refl, ap, ◌∙◌, arith, length-append}
+use Rattle.std.specs.Prelude.{replicate, slice_get}
 use Rattle.std.specs.Option.{option_and_then}
 use Rattle.std.proofs.lemmas.Option.{slice_get-get_or}
 use Rattle.std.proofs.lemmas.List.{get_or-append-add}
 use Rattle.std.proofs.lemmas.List.{length-replicate}
 use Rattle.std.proofs.lemmas.Bool.{le-leb}
 use Rattle.kat_forms.specs.declared.sort.Sort.{Sort}
-use Rattle.kat_forms.specs.Shapes.{Shape, sorts_of}
+use Rattle.kat_forms.specs.Shapes.{sorts_of}
 
 -- the parts behind others
 behind : (xs ys : List Sort) (at k : ℕ) (d : Sort) → at ≡ length xs + k → k < length ys → slice_get (xs ++ ys) at ≡ Some (get_or ys k d)

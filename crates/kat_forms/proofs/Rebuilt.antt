@@ -1,7 +1,6 @@
 -- A list is the form that its parts make.
-use Rattle.std.proofs.Common.{◌≡◌, ℕ, Bool, if◌then◌else◌, ◌+◌, ◌<◌, ◌≤◌, List, [], ◌∷◌, ◌++◌, length, drop, get_or, map, Option, Some, None, true, false, zero, suc, refl, ap, sym, ◌∙◌, arith}
+use Rattle.std.proofs.Common.{◌≡◌, ℕ, Bool, if◌then◌else◌, ◌+◌, ◌<◌, ◌≤◌, List, [], ◌∷◌, length, drop, get_or, map, Option, Some, None, true, false, refl, ap, sym, ◌∙◌}
 use Rattle.std.proofs.lemmas.List.{drop_all, drop_more}
-use Rattle.kat_tree.specs.declared.tree.Token.{Token}
 use Rattle.kat_tree.specs.declared.tree.Token.TheVariants.{Number, Name}
 use Rattle.kat_tree.specs.declared.tree.Tree.{Tree}
 use Rattle.kat_tree.specs.declared.tree.Tree.TheVariants as variant
@@ -15,7 +14,7 @@ use Rattle.std.specs.Str.{bytes_eq}
 use Rattle.std.proofs.lemmas.Slice.Eq.{bytes_eq-Decides}
 use Rattle.kat_forms.specs.declared.sort.Sort.{Sort}
 use Rattle.kat_forms.specs.Shapes.{Shape, shape_if, shape_of, sorts_of}
-use Rattle.kat_forms.specs.Fits.{Judged, judged, judged_in, first_word, name_of, sorts_for, list_fits, fits}
+use Rattle.kat_forms.specs.Fits.{Judged, judged, judged_in, first_word, sorts_for, list_fits, fits}
 
 word_of_roll : (y : Tree-F Tree) (w : List ℕ) → (judged (roll-Tree y)).word ≡ Some w → (judged_in (map-Tree Tree Judged judged y)).word ≡ Some w
 word_of_roll y w e = sym (ap (λ (j : Judged). j.word) (fold-roll-Tree Judged judged_in y)) ∙ e

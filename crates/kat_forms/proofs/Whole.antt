@@ -1,13 +1,12 @@
 -- A specification, from the declarations that its parts are.
-use Rattle.std.proofs.Common.{◌≡◌, ℕ, ◌+◌, ◌-◌, ◌<◌, ◌≤◌, ◌^◌, List, [], ◌∷◌, ◌++◌, length, take, drop, get_or, map, Option, Some, None, true, false, zero, suc, refl, ap, sym, subst, ◌∙◌, arith, length-append}
-use Rattle.std.specs.Prelude.{codes, replicate, sum, sum_by}
+use Rattle.std.proofs.Common.{◌≡◌, ℕ, ◌+◌, ◌<◌, ◌≤◌, ◌^◌, List, [], ◌∷◌, ◌++◌, length, take, drop, map, Option, Some, None, true, zero, suc, refl, ap, sym, subst, ◌∙◌, arith}
+use Rattle.std.specs.Prelude.{codes, sum, sum_by}
 use Rattle.std.specs.Option.{option_and_then}
 use Rattle.kat_tree.specs.Preorder.{count_in, count_of}
 use Rattle.std.specs.List.{AllByRecursion}
 use Rattle.std.proofs.lemmas.List.{take_more, map-append, length-map}
 use Rattle.std.proofs.lemmas.Bool.{eqb-true}
 use Rattle.std.proofs.lemmas.List.Sums.{sum-map}
-use Rattle.kat_tree.specs.declared.tree.Token.{Token}
 use Rattle.kat_tree.specs.declared.tree.Token.TheVariants as token
 use Rattle.kat_tree.specs.declared.tree.Tree.{Tree}
 use Rattle.kat_tree.specs.declared.tree.Tree.TheVariants as variant
@@ -17,15 +16,15 @@ use Rattle.kat_tree.specs.declared.tree.Tree.TheViews.{roll-Tree, out-Tree, roll
 use Rattle.kat_tree.specs.declared.tree.Tree.TheFolds.{map-Tree, fold-roll-Tree, ind-Tree}
 use Rattle.kat_syntax.specs.declared.decl.DeclForm.{DeclForm}
 use Rattle.kat_syntax.specs.declared.decl.Spec.{Spec}
-use Rattle.kat_syntax.specs.Written.{word, number, form, tree_of_decl}
+use Rattle.kat_syntax.specs.Written.{number, form, tree_of_decl}
 use Rattle.kat_syntax.specs.WellFormed.{IsDecl}
 use Rattle.kat_syntax.specs.Describes.{tree_of_spec, Describes}
 use Rattle.kat_forms.specs.declared.sort.Sort.TheVariants as sort
 use Rattle.kat_forms.specs.declared.sort.Sort.{Sort}
 use Rattle.kat_forms.specs.Shapes.{many, shape_of, sorts_of}
-use Rattle.kat_forms.specs.Fits.{Judged, judged, judged_in, first_word, sorts_for, all_fit, list_fits, fits, fits_token}
+use Rattle.kat_forms.specs.Fits.{Judged, judged, judged_in, first_word, sorts_for, all_fit, list_fits, fits}
 use Rattle.kat_forms.specs.Parts.{Fits, IsPartOfText}
-use Rattle.kat_forms.proofs.Rebuilt.{At, Begins, form_of, fits_list, small_word, next}
+use Rattle.kat_forms.proofs.Rebuilt.{At, Begins, form_of, fits_list, small_word}
 use Rattle.kat_forms.proofs.PartsFit.{many_fit, part_fit, rest_fit}
 use Rattle.kat_forms.proofs.Fitting.{AllOf, token_fits}
 use Rattle.kat_forms.proofs.FittingForms.{headed_many, decl_fits}

@@ -40,6 +40,7 @@ pub record Judged : Type 0 where
   pub fits : Sort → Bool
   pub misfit : Sort → ℕ → Misfit
 
+-- the name that a token is, if it is one
 abbrev pub name_of : Token → Option (List ℕ)
 name_of (token.Name x) = Some x
 name_of (token.Number n) = None
@@ -64,6 +65,7 @@ first_misfit (sort ∷ sorts) (part ∷ parts) place =
     if part.fits sort then first_misfit sorts parts (place + part.count) else part.misfit sort place
 first_misfit _ _ place = misfit_at Word place
 
+-- whether parts fit the sorts of a list, one each
 abbrev pub list_fits : Option (List Sort) → List Judged → Bool
 list_fits None parts = false
 list_fits (Some sorts) parts = all_fit sorts parts
@@ -88,6 +90,7 @@ judged_in (Tree-F.List parts) = record {
   misfit = λ sort place. list_misfit sort (sorts_for sort parts) parts place;
 }
 
+-- a tree with what is judged of it
 abbrev pub judged : Tree → Judged
 judged = fold-Tree Judged judged_in
 

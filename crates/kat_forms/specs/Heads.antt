@@ -43,6 +43,7 @@ decl_words =
     ∷ (codes "boot", decl.Boot)
     ∷ []
 
+-- the declaration that a word begins
 abbrev pub decl_head : List ℕ → Option DeclHead
 decl_head = head_in decl_words
 
@@ -67,6 +68,7 @@ stm_words =
     ∷ (codes "lemma", stm.Lemma)
     ∷ []
 
+-- the statement that a word begins
 abbrev pub stm_head : List ℕ → Option StmHead
 stm_head = head_in stm_words
 
@@ -110,6 +112,7 @@ expr_words =
     ∷ (codes "ite", expr.Plain op.Ite)
     ∷ []
 
+-- the expression that a word begins
 abbrev pub expr_head : List ℕ → Option ExprHead
 expr_head = head_in expr_words
 
@@ -126,6 +129,7 @@ assertion_words =
     ∷ (codes "region", assertion.Region)
     ∷ []
 
+-- the assertion that a word begins
 abbrev pub assertion_head : List ℕ → Option AssertionHead
 assertion_head = head_in assertion_words
 
@@ -148,6 +152,7 @@ word_of_stm stm.Open = codes "open"
 word_of_stm stm.Close = codes "close"
 word_of_stm stm.Lemma = codes "lemma"
 
+-- the word that begins a declaration
 abbrev pub word_of_decl : DeclHead → List ℕ
 word_of_decl decl.Enum = codes "enum"
 word_of_decl decl.Union = codes "union"
@@ -167,6 +172,7 @@ word_of_decl decl.Untrusted = codes "untrusted"
 word_of_decl decl.Block = codes "block"
 word_of_decl decl.Boot = codes "boot"
 
+-- the word that begins an assertion
 abbrev pub word_of_assertion : AssertionHead → List ℕ
 word_of_assertion assertion.Pure = codes "pure"
 word_of_assertion assertion.Register = codes "reg"
@@ -177,6 +183,7 @@ word_of_assertion assertion.Exists = codes "exists"
 word_of_assertion assertion.Predicate = codes "pred"
 word_of_assertion assertion.Region = codes "region"
 
+-- the word that begins an expression
 abbrev pub word_of_expr : ExprHead → List ℕ
 word_of_expr expr.Bits = codes "bits"
 word_of_expr expr.Of = codes "of"

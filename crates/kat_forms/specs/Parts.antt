@@ -1,6 +1,5 @@
 -- What the parts of a list that fits are, sort by sort.
-use Rattle.std.specs.Prelude.{◌≡◌, ◌<◌, ◌≤◌, ◌^◌, Bool, true, false, List, [], ◌∷◌}
-use Rattle.std.specs.List.{AllByRecursion}
+use Rattle.std.specs.Prelude.{◌≡◌, ◌<◌, ◌≤◌, ◌^◌, Bool, true, false}
 use Rattle.kat_tree.specs.declared.tree.Tree.{Tree}
 use Rattle.kat_tree.specs.Lexeme.{nesting}
 use Rattle.kat_tree.specs.Preorder.{count_of}

@@ -1,5 +1,5 @@
 -- What the reader of specifications answers.
-use Rattle.std.specs.Prelude.{◌≡◌, ℕ, false, Result, Ok, Err}
+use Rattle.std.specs.Prelude.{◌≡◌, false, Result, Ok, Err}
 use Rattle.kat_tree.specs.declared.tree.Tree.{Tree}
 use Rattle.kat_syntax.specs.declared.decl.Spec.{Spec}
 use Rattle.kat_forms.specs.declared.sort.Sort.TheVariants as sort

@@ -5,6 +5,7 @@ use Rattle.kat_forms.specs.declared.sort.Sort.TheVariants.{Declaration, Statemen
 use Rattle.kat_forms.specs.declared.shape.Shape.{Shape as CodeShape}
 use Rattle.kat_forms.specs.Shapes.{Shape}
 
+-- a shape of the code, as the definitions see it
 abbrev pub seen_shape : CodeShape → Shape
 seen_shape shape = record { first = shape.first.now; middle = shape.middle; last = shape.last.now }
 

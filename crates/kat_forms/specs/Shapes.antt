@@ -1,8 +1,7 @@
 -- The parts of each form: what they are read as, and how many there may be. The first word is a part too.
-use Rattle.std.specs.Prelude.{ℕ, true, false, ◌+◌, ◌-◌, ◌==◌, nat_le, if◌then◌else◌, List, [], ◌∷◌, ◌++◌, length, replicate, codes, Option, Some, None}
+use Rattle.std.specs.Prelude.{ℕ, ◌+◌, ◌-◌, ◌==◌, nat_le, if◌then◌else◌, List, [], ◌∷◌, ◌++◌, length, replicate, codes, Option, Some, None}
 use Rattle.std.specs.Option.{option_map, option_and_then}
 use Rattle.std.specs.Str.{bytes_eq}
-use Rattle.kat_value.specs.declared.op.Op.{Op}
 use Rattle.kat_syntax.specs.Formed.{arity_of}
 use Rattle.kat_forms.specs.declared.sort.Sort.{Sort}
 use Rattle.kat_forms.specs.declared.sort.Sort.TheVariants.{Spec, Version, Declaration, TypeName, Name, Number, RegisterPlace, CellsPlace, Statement, Expression, Assertion, Phase, Members, Params, Fields, Param, CaseArm, MatchArm, Pre, Res, Post, Steps, When, Else, Entry, Within, Change, Word}
@@ -30,6 +29,7 @@ exactly sorts = record { first = sorts; middle = None; last = [] }
 abbrev pub many : List Sort → Sort → Shape
 many sorts sort = record { first = sorts; middle = Some sort; last = [] }
 
+-- the parts of a declaration
 abbrev pub shape_of_decl : DeclHead → Shape
 shape_of_decl decl.Enum = exactly (Word ∷ Name ∷ Members ∷ [])
 shape_of_decl decl.Union = exactly (Word ∷ Name ∷ Fields ∷ [])
@@ -49,6 +49,7 @@ shape_of_decl decl.Untrusted = exactly (Word ∷ Assertion ∷ [])
 shape_of_decl decl.Block = exactly (Word ∷ Name ∷ Entry ∷ Within ∷ Change ∷ [])
 shape_of_decl decl.Boot = exactly (Word ∷ Name ∷ [])
 
+-- the parts of a statement
 abbrev pub shape_of_stm : StmHead → Shape
 shape_of_stm stm.Ret = exactly (Word ∷ Expression ∷ [])
 shape_of_stm stm.Let = exactly (Word ∷ Name ∷ Statement ∷ Statement ∷ [])
@@ -71,6 +72,7 @@ shape_of_stm stm.Lemma = many (Word ∷ Name ∷ []) Expression
 abbrev pub arguments : ℕ → List Sort
 arguments count = replicate count Expression
 
+-- the parts of an expression
 abbrev pub shape_of_expr : ExprHead → Shape
 shape_of_expr expr.Bits = exactly (Word ∷ Number ∷ Number ∷ [])
 shape_of_expr expr.Of = exactly (Word ∷ Name ∷ Name ∷ [])
@@ -89,6 +91,7 @@ shape_of_expr expr.Zext = exactly (Word ∷ Number ∷ Expression ∷ [])
 shape_of_expr expr.Sext = exactly (Word ∷ Number ∷ Expression ∷ [])
 shape_of_expr (expr.Plain op) = exactly (Word ∷ arguments (arity_of op))
 
+-- the parts of an assertion
 abbrev pub shape_of_assertion : AssertionHead → Shape
 shape_of_assertion assertion.Pure = exactly (Word ∷ Expression ∷ [])
 shape_of_assertion assertion.Register = exactly (Word ∷ Name ∷ Expression ∷ [])
@@ -138,6 +141,7 @@ abbrev pub middles : Option Sort → ℕ → Option (List Sort)
 middles None count = if count == 0 then Some [] else None
 middles (Some sort) count = Some (replicate count sort)
 
+-- the sorts of so many parts, where a shape has as many
 abbrev pub sorts_of : Shape → ℕ → Option (List Sort)
 sorts_of shape count =
     if nat_le (length shape.first + length shape.last) count

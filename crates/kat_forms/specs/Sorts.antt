@@ -6,6 +6,7 @@ use Rattle.kat_forms.specs.declared.misfit.Misfit.{Misfit}
 use Rattle.kat_forms.specs.declared.sort.Sort.{Sort}
 use Rattle.kat_forms.specs.declared.sort.Sort.TheVariants.{Spec, Version, Declaration, TypeName, Name, Number, RegisterPlace, CellsPlace, Statement, Expression, Assertion, Phase}
 
+-- what is wanted where a sort of part stands
 abbrev pub wanted_of : Sort → Wanted
 wanted_of Spec = wanted.Spec
 wanted_of Version = wanted.Version

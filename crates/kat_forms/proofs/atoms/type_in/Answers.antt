@@ -3,7 +3,7 @@ use Rattle.std.specs.Prelude.{codes}
 use Rattle.kat_tree.specs.declared.tree.Tree.TheVariants as variant
 use Rattle.kat_forms.specs.declared.sort.Sort.TheVariants as sort
 use Rattle.kat_forms.specs.Shapes.{exactly}
-use Rattle.kat_forms.proofs.Rebuilt.{begins, form_of, next, nothing, small_word}
+use Rattle.kat_forms.proofs.Rebuilt.{form_of, next, nothing, small_word}
 use Rattle.kat_forms.proofs.atoms.type_in.Goals as goal
 
 pub returns-in-len2 : goal.returns-in-len2

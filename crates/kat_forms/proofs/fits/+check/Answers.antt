@@ -1,12 +1,12 @@
 -- The parts of a list are gone over in order, each as what it is to be read as.
-use Rattle.std.proofs.Common.{◌≡◌, ◌+◌, ◌≤◌, ◌<◌, length, map, get_or, ap, refl, sym, ◌∙◌, arith}
+use Rattle.std.proofs.Common.{length, get_or, ap, refl, sym, ◌∙◌, arith}
 use Rattle.std.proofs.lemmas.List.{length-map}
 use Rattle.std.proofs.lemmas.Result.{err_from_is_err_and}
 use Rattle.kat_tree.specs.declared.tree.Tree.TheVariants as variant
 use Rattle.kat_forms.specs.Seen.{seen_shape}
 use Rattle.kat_forms.specs.Shapes.{shape_of, sorts_of}
 use Rattle.kat_forms.specs.Fits.{judged}
-use Rattle.kat_forms.proofs.Checking.{Checking, has_sort, sort_here, sorts_here, part_here, part_below, step, refused, end, whole_fits, whole_misfit, whole_count, sorts_length}
+use Rattle.kat_forms.proofs.Checking.{has_sort, sort_here, part_here, part_below, step, refused, end, whole_fits, whole_misfit, whole_count, sorts_length}
 use Rattle.kat_forms.proofs.fits.+check.Goals as goal
 
 pub unreachable-requires : goal.unreachable-requires

@@ -1,6 +1,4 @@
-use Rattle.std.proofs.Common.{arith, ap, sym, subst}
-use Rattle.kat_tree.specs.declared.tree.Tree.{Tree}
-use Rattle.kat_tree.specs.Lexeme.{nesting}
+use Rattle.std.proofs.Common.{arith, subst}
 use Rattle.kat_tree.specs.Written.{IsWritable}
 use Rattle.kat_forms.proofs.Whole.{text_parts, gives_spec}
 use Rattle.kat_forms.proofs.read.read_spec.Goals as goal
