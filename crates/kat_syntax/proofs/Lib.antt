@@ -15,6 +15,7 @@ pub mod SoundFail
 pub mod SoundCycle
 pub mod SoundNames
 pub mod SoundRun
+pub mod SafeExpr
 pub mod Decoded
 pub mod ExprBack
 pub mod TypeBack

@@ -1,0 +1,95 @@
+-- Type safety: what the meaning needs on its way, so that it falls into none of its catch-alls.
+use Rattle.std.specs.Prelude.{◌≡◌, ◌++◌, ℕ, zero, suc, Bool, true, false, if◌then◌else◌, List, [], ◌∷◌, All, map, flat_map, length, Option, Some, None, option_and_then, slice_get}
+use Rattle.std.specs.List.{AllByRecursion}
+use Rattle.std.specs.Str.{bytes_eq}
+use Rattle.kat_names.specs.Names.{position_of}
+use Rattle.kat_value.specs.declared.op.Op.{Op}
+use Rattle.kat_value.specs.declared.op.Op.TheVariants.{Eq}
+use Rattle.kat_value.specs.declared.types.Ty.{Ty}
+use Rattle.kat_value.specs.declared.value.Value.{Value}
+use Rattle.kat_value.specs.declared.value.Value.TheVariants.{Bool as Truth}
+use Rattle.kat_value.specs.Operations.{is_number, value_of_op}
+use Rattle.kat_value.specs.Typing.{HasType}
+use Rattle.kat_syntax.specs.declared.expr.Expr.{Expr}
+use Rattle.kat_syntax.specs.declared.expr.Expr.TheOpen.{Expr-F, Name as Named, Unit as UnitExpr, Bits, Apply}
+use Rattle.kat_syntax.specs.declared.expr.Expr.TheFolds.{map-Expr, fold-Expr}
+use Rattle.kat_syntax.specs.declared.stm.Stm.{Stm}
+use Rattle.kat_syntax.specs.declared.stm.Stm.TheOpen.{Stm-F, Ret, Let, If, Read, Write, Fail as FailStm}
+use Rattle.kat_syntax.specs.declared.stm.Stm.TheFolds.{map-Stm, fold-Stm}
+use Rattle.kat_syntax.specs.declared.decl.Spec.{Spec}
+use Rattle.kat_syntax.specs.Tables.{Name, RegisterDecl, registers_of, Function, function_from, step_of}
+use Rattle.kat_syntax.specs.FirstForm.{is_first_expr, is_first_stm}
+use Rattle.kat_syntax.specs.Formed.{is_formed_expr, is_formed_stm}
+use Rattle.kat_syntax.specs.Runnable.{IsFirstForm}
+use Rattle.kat_syntax.specs.Typing.{Scope, known_of_expr, known_of_stm, declared_by}
+use Rattle.kat_syntax.specs.Machine.{MachineState, Progress}
+use Rattle.kat_syntax.specs.Meaning.{Locals, Outcome, Done, Out, Fail, is_true, Calls, Part, part_of, expr_value, value_of_expr}
+use Rattle.kat_syntax.specs.Cycle.{call_of}
+use Rattle.kat_syntax.specs.Run.{Event, run_of}
+use Rattle.kat_syntax.specs.TextLaw.{IsOfType, IsStateOf}
+use Rattle.kat_syntax.specs.Soundness.{HasWidth, AreOfScope, CanRun}
+
+-- what the meaning needs at one place, so that it falls into none of its catch-alls: a local of a name, a number of a width,
+-- values that an operation takes, a truth, a value in a register, a register of a value's type, a form that machines run
+pub data Need : Type 0 where
+  Local : (locals : Locals) (x : Name) → Need
+  Literal : (width number : ℕ) → Need
+  Operands : (op : Op) (values : List Value) → Need
+  Test : (value : Value) → Need
+  Held : (values : List Value) (place : Option ℕ) → Need
+  Written : (registers : List RegisterDecl) (place : Option ℕ) (value : Value) → Need
+  Runnable : Need
+
+-- whether a local has this name
+abbrev pub is_bound : Locals → Name → Bool
+is_bound [] x = false
+is_bound (local ∷ locals) x = if bytes_eq local.0 x then true else is_bound locals x
+
+-- the values that are compared are of one type of the language
+abbrev pub AreComparable : Op → List Value → Type 0
+AreComparable Eq values = (type : Ty) × HasWidth type × AllByRecursion (HasType [] type) values
+AreComparable _ values = Unit {0}
+
+-- a need is met
+abbrev pub IsMet : Need → Type 0
+IsMet (Local locals x) = is_bound locals x ≡ true
+IsMet (Literal width number) = is_number width number ≡ true
+IsMet (Operands op values) = ((result : Value) × (value_of_op op values ≡ Some result)) × AreComparable op values
+IsMet (Test value) = (b : Bool) × (value ≡ Truth b)
+IsMet (Held values place) = (value : Value) × (option_and_then (λ at. slice_get values at) place ≡ Some value)
+IsMet (Written registers place value) =
+    (register : RegisterDecl) × (option_and_then (λ at. slice_get registers at) place ≡ Some register) × IsOfType register.type value
+IsMet Runnable = ⊥
+
+-- an expression as it is run: its value, and what it needs
+pub record RunExpr : Type 0 where
+  pub value : Locals → Value
+  pub needs : Locals → List Need
+
+-- what one layer of an expression needs, with its parts in their places
+abbrev pub expr_needs : Expr-F RunExpr → Locals → List Need
+expr_needs (Named x) locals = Local locals x ∷ []
+expr_needs UnitExpr locals = []
+expr_needs (Bits width number) locals = Literal width number ∷ []
+expr_needs (Apply op args) locals = Operands op (map (λ arg. arg.value locals) args) ∷ flat_map (λ arg. arg.needs locals) args
+expr_needs _ locals = Runnable ∷ []
+
+-- one layer of an expression
+abbrev pub run_expr_of : Expr-F RunExpr → RunExpr
+run_expr_of layer = record {
+  value = expr_value (map-Expr RunExpr (Locals → Value) (λ part. part.value) layer);
+  needs = expr_needs layer;
+}
+
+abbrev pub run_expr : Expr → RunExpr
+run_expr = fold-Expr RunExpr run_expr_of
+
+-- an expression is safe among these locals: all that it needs is met
+abbrev pub IsSafeExpr : Expr → Locals → Type 0
+IsSafeExpr e locals = AllByRecursion IsMet ((run_expr e).needs locals)
+
+-- an expression without faults is safe, among locals of its scope
+abbrev pub ExpressionsAreSafe : Type 0
+ExpressionsAreSafe =
+    (e : Expr) (scope : Scope) (locals : Locals) → is_first_expr e ≡ true → is_formed_expr e ≡ true →
+    (known_of_expr scope e).faults ≡ [] → AreOfScope scope locals → IsSafeExpr e locals
