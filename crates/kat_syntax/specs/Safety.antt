@@ -93,3 +93,57 @@ abbrev pub ExpressionsAreSafe : Type 0
 ExpressionsAreSafe =
     (e : Expr) (scope : Scope) (locals : Locals) → is_first_expr e ≡ true → is_formed_expr e ≡ true →
     (known_of_expr scope e).faults ≡ [] → AreOfScope scope locals → IsSafeExpr e locals
+
+-- the place of the register of this name
+abbrev pub place_of : List RegisterDecl → Name → Option ℕ
+place_of registers r = position_of (map (λ (register : RegisterDecl). register.name) registers) r
+
+-- a statement as it is run: what it does, and what it needs
+pub record RunStm : Type 0 where
+  pub part : Part
+  pub needs : Locals → Progress → List Need
+
+-- what is needed from where a part is done
+abbrev pub needs_behind : Outcome → (Value → Progress → List Need) → List Need
+needs_behind (Done value progress) go = go value progress
+needs_behind Out go = []
+needs_behind (Fail site) go = []
+
+-- what one layer of a statement needs, in a machine of these registers, with its parts in their places
+abbrev pub stm_needs : List RegisterDecl → Stm-F RunStm → Locals → Progress → List Need
+stm_needs registers (Ret e) locals progress = (run_expr e).needs locals
+stm_needs registers (Let x first second) locals progress =
+    first.needs locals progress
+    ++ needs_behind (first.part.does locals progress) (λ value next. second.needs ((x, value) ∷ locals) next)
+stm_needs registers (If test first second) locals progress =
+    Test (value_of_expr test locals)
+    ∷ ((run_expr test).needs locals
+    ++ (if is_true (value_of_expr test locals) then first.needs locals progress else second.needs locals progress))
+stm_needs registers (Read r) locals progress = Held progress.state.registers (place_of registers r) ∷ []
+stm_needs registers (Write r e) locals progress =
+    Held progress.state.registers (place_of registers r)
+    ∷ Written registers (place_of registers r) (value_of_expr e locals)
+    ∷ (run_expr e).needs locals
+stm_needs registers FailStm locals progress = []
+stm_needs registers _ locals progress = Runnable ∷ []
+
+-- one layer of a statement
+abbrev pub run_stm_of : List RegisterDecl → Calls → Stm-F RunStm → RunStm
+run_stm_of registers calls layer = record {
+  part = part_of (map (λ (register : RegisterDecl). register.name) registers) calls (map-Stm RunStm Part (λ part. part.part) layer);
+  needs = stm_needs registers layer;
+}
+
+abbrev pub run_stm : List RegisterDecl → Calls → Stm → RunStm
+run_stm registers calls = fold-Stm RunStm (run_stm_of registers calls)
+
+-- a statement is safe among these locals and from this progress on: all that it needs is met
+abbrev pub IsSafeStm : List RegisterDecl → Calls → Stm → Locals → Progress → Type 0
+IsSafeStm registers calls s locals progress = AllByRecursion IsMet ((run_stm registers calls s).needs locals progress)
+
+-- a statement without faults is safe, from locals of its scope and a state of the machine on
+abbrev pub StatementsAreSafe : Type 0
+StatementsAreSafe =
+    (spec : Spec) (calls : Calls) (s : Stm) (scope : Scope) (locals : Locals) (progress : Progress) → IsFirstForm spec →
+    is_first_stm s ≡ true → is_formed_stm s ≡ true → (known_of_stm (declared_by spec.decls) s scope).faults ≡ [] →
+    AreOfScope scope locals → IsStateOf spec progress.state → IsSafeStm (registers_of spec.decls) calls s locals progress
