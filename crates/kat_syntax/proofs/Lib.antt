@@ -17,6 +17,7 @@ pub mod SoundNames
 pub mod SoundRun
 pub mod SafeExpr
 pub mod SafeStm
+pub mod SafeCycle
 pub mod Decoded
 pub mod ExprBack
 pub mod TypeBack

@@ -25,7 +25,7 @@ use Rattle.kat_syntax.specs.Typing.{Scope, known_of_expr, known_of_stm, declared
 use Rattle.kat_syntax.specs.Machine.{MachineState, Progress}
 use Rattle.kat_syntax.specs.Meaning.{Locals, Outcome, Done, Out, Fail, is_true, Calls, Part, part_of, expr_value, value_of_expr}
 use Rattle.kat_syntax.specs.Cycle.{call_of}
-use Rattle.kat_syntax.specs.Run.{Event, run_of}
+use Rattle.kat_syntax.specs.Run.{Event, Run, run_of}
 use Rattle.kat_syntax.specs.TextLaw.{IsOfType, IsStateOf}
 use Rattle.kat_syntax.specs.Soundness.{HasWidth, AreOfScope, CanRun}
 
@@ -147,3 +147,31 @@ StatementsAreSafe =
     (spec : Spec) (calls : Calls) (s : Stm) (scope : Scope) (locals : Locals) (progress : Progress) → IsFirstForm spec →
     is_first_stm s ≡ true → is_formed_stm s ≡ true → (known_of_stm (declared_by spec.decls) s scope).faults ≡ [] →
     AreOfScope scope locals → IsStateOf spec progress.state → IsSafeStm (registers_of spec.decls) calls s locals progress
+
+-- a step with these calls left behind it is safe: its function is there and takes nothing, and the body is safe
+pub record IsSafeStep (spec : Spec) (left : ℕ) (state : MachineState) : Type 0 where
+  pub step : Name
+  pub named : step_of spec.decls ≡ Some step
+  pub function : Function
+  pub found : function_from 0 spec.decls step ≡ Some function
+  pub takes_nothing : function.params ≡ []
+  pub body : IsSafeStm (registers_of spec.decls) (call_of spec.decls left) function.body [] (record { state = state; left = left; stores = [] })
+
+-- a cycle with n calls allowed is safe: its step is, and with none nothing is run
+abbrev pub IsSafeCycle : Spec → ℕ → MachineState → Type 0
+IsSafeCycle spec zero state = Unit {0}
+IsSafeCycle spec (suc left) state = IsSafeStep spec left state
+
+-- a cycle is safe, from a state of the machine on and with any number of calls
+abbrev pub CyclesAreSafe : Type 0
+CyclesAreSafe = (spec : Spec) (n : ℕ) (state : MachineState) → CanRun spec → IsStateOf spec state → IsSafeCycle spec n state
+
+-- a run is safe: the cycle from each of its boundary states is, and each of its cycles starts at one of them
+abbrev pub IsSafeRun : Spec → ℕ → Run → Type 0
+IsSafeRun spec n run = All (IsSafeCycle spec n) run.boundaries
+
+-- a run is safe, from a state of the machine on, with any number of calls and over any events
+abbrev pub RunsAreSafe : Type 0
+RunsAreSafe =
+    (spec : Spec) (n : ℕ) (start : MachineState) (events : List Event) → CanRun spec → IsStateOf spec start →
+    IsSafeRun spec n (run_of spec n start events)

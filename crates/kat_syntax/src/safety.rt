@@ -1,6 +1,6 @@
 // What a specification that can be run never meets: a value that is not of the type wanted.
 
-ghost use Rattle.kat_syntax.specs.Safety.{ExpressionsAreSafe, StatementsAreSafe};
+ghost use Rattle.kat_syntax.specs.Safety.{ExpressionsAreSafe, StatementsAreSafe, CyclesAreSafe, RunsAreSafe};
 
 /// An expression without a fault of typing is safe, among locals that are what their scope says: its meaning falls into none
 /// of its catch-alls. Every name has a local, every literal fits its width, every operation has a value, and `eq` compares
@@ -18,4 +18,21 @@ pub fn expressions_are_safe()
 #[tactic(auto, using(crate::proofs::SafeStm::statements_safe))]
 pub fn statements_are_safe()
     ensures { StatementsAreSafe }
+{}
+
+/// A cycle of a specification that can be run is safe, from a state of its machine and with any number of calls: the step
+/// declaration names a function that is there and takes nothing, and its body is safe, with the calls that the cycle
+/// leaves it. With no call nothing is run. The function does nothing: its contract is the law.
+#[tactic(auto, using(crate::proofs::SafeCycle::cycles_safe))]
+pub fn cycles_are_safe()
+    ensures { CyclesAreSafe }
+{}
+
+/// A run of a specification that can be run is safe, from a state of its machine, with any number of calls in a cycle and
+/// over any cycles and outside writes: the cycle from the state at every boundary is safe, and each cycle of the run starts
+/// at a boundary. So no machine that typing has no fault in meets, in any run, a value that is not of the type wanted,
+/// a name without a value or a register that is not there. The function does nothing: its contract is the law.
+#[tactic(auto, using(crate::proofs::SafeCycle::runs_safe))]
+pub fn runs_are_safe()
+    ensures { RunsAreSafe }
 {}
