@@ -1,6 +1,6 @@
 -- An expression without faults is safe.
-use Rattle.std.proofs.Common.{◌≡◌, ℕ, ◌+◌, ◌<◌, ◌^◌, Bool, true, false, List, [], ◌∷◌, ◌++◌, map, length, Option, Some, None, refl, sym, ap, subst, ◌∙◌, arith, if◌then◌else◌}
-use Rattle.std.specs.Prelude.{nat_lt, ◌==◌, ◌&&◌, ◌%◌, is_some, flat_map}
+use Rattle.std.proofs.Common.{◌≡◌, ℕ, ◌+◌, ◌^◌, Bool, true, false, List, [], ◌∷◌, ◌++◌, map, length, Option, Some, None, refl, sym, ap, subst, ◌∙◌, arith, if◌then◌else◌}
+use Rattle.std.specs.Prelude.{nat_lt, ◌==◌, ◌&&◌, ◌%◌, is_some}
 use Rattle.std.specs.List.{AllByRecursion}
 use Rattle.std.specs.Str.{bytes_eq}
 use Rattle.std.proofs.lemmas.Bool.{and_parts, eqb-true, ltb-true, false≢true}
@@ -10,7 +10,6 @@ use Rattle.kat_value.specs.declared.types.Ty.{Ty}
 use Rattle.kat_value.specs.declared.value.Value.{Value}
 use Rattle.kat_value.specs.declared.value.Value.TheVariants.{Bool as Truth, Bits as Number}
 use Rattle.kat_value.specs.Equality.{value_eq}
-use Rattle.kat_value.specs.Typing.{HasType}
 use Rattle.kat_syntax.specs.declared.expr.Expr.{Expr}
 use Rattle.kat_syntax.specs.declared.expr.Expr.TheOpen.{Expr-F, Name as Named, Unit, Bits, Apply}
 use Rattle.kat_syntax.specs.declared.expr.Expr.TheFolds.{map-Expr, fold-roll-Expr, ind-Expr}
@@ -23,8 +22,8 @@ use Rattle.kat_syntax.proofs.TypingLaws.{empty_first, empty_second}
 use Rattle.kat_syntax.specs.Meaning.{Locals, expr_value, value_of_expr}
 use Rattle.kat_syntax.specs.Soundness.{IsOfKnown, AreOfScope}
 use Rattle.kat_syntax.specs.Safety.{Need, Operands, is_bound, IsMet, RunExpr, expr_needs, run_expr_of, run_expr, IsSafeExpr, ExpressionsAreSafe}
-use Rattle.kat_syntax.proofs.SoundValues.{holds_unless, clean_inside, numbers_are, agreed, two_numbers, AreTwo, ult_gives, add_gives}
-use Rattle.kat_syntax.proofs.SoundExpr.{first_fixes, fixed_stays, two_takes_two, expressions_sound}
+use Rattle.kat_syntax.proofs.SoundValues.{holds_unless, clean_inside, numbers_are, agreed, two_numbers, ult_gives, add_gives}
+use Rattle.kat_syntax.proofs.SoundExpr.{first_fixes, two_takes_two, expressions_sound}
 
 -- what two lists need is met where what each needs is
 pub both_met : (first second : List Need) → AllByRecursion IsMet first → AllByRecursion IsMet second → AllByRecursion IsMet (first ++ second)
