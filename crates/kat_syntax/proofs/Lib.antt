@@ -16,6 +16,7 @@ pub mod SoundCycle
 pub mod SoundNames
 pub mod SoundRun
 pub mod SafeExpr
+pub mod SafeParts
 pub mod SafeStm
 pub mod SafeCycle
 pub mod Decoded

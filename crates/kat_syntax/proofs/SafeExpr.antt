@@ -21,7 +21,7 @@ use Rattle.kat_syntax.specs.Typing.{unless, inside, agree, may_be_bits, Scope, l
 use Rattle.kat_syntax.proofs.TypingLaws.{empty_first, empty_second}
 use Rattle.kat_syntax.specs.Meaning.{Locals, expr_value, value_of_expr}
 use Rattle.kat_syntax.specs.Soundness.{IsOfKnown, AreOfScope}
-use Rattle.kat_syntax.specs.Safety.{Need, Operands, is_bound, IsMet, RunExpr, expr_needs, run_expr_of, run_expr, IsSafeExpr, ExpressionsAreSafe}
+use Rattle.kat_syntax.specs.Safety.{Need, Operands, is_bound, IsMet, RunExpr, expr_needs, run_expr_of, run_expr, ExpressionsRunAsMeant, IsSafeExpr, ExpressionsAreSafe}
 use Rattle.kat_syntax.proofs.SoundValues.{holds_unless, clean_inside, numbers_are, agreed, two_numbers, ult_gives, add_gives}
 use Rattle.kat_syntax.proofs.SoundExpr.{first_fixes, two_takes_two, expressions_sound}
 
@@ -109,7 +109,7 @@ layer_valued : (y : Expr-F ValuedPart) →
 layer_valued (Apply op args) = ap (λ values. expr_value (Apply op values)) (args_valued args)
 layer_valued _ = refl
 
-value_of_run : (e : Expr) → HasValue e
+pub value_of_run : ExpressionsRunAsMeant
 value_of_run = ind-Expr HasValue (λ x y is.
     ap (λ (p : RunExpr). p.value) (fold-roll-Expr RunExpr run_expr_of x)
     ∙ subst (λ z. expr_value (map-Expr RunExpr (Locals → Value) (λ p. p.value) (map-Expr Expr RunExpr run_expr z))

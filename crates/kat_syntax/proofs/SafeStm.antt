@@ -21,7 +21,7 @@ use Rattle.kat_syntax.specs.Runnable.{IsFirstForm}
 use Rattle.kat_syntax.specs.Typing.{unless, inside as faults_inside, Scope, Known, agree, is_in_scope, register_type, known_of_expr, declared_by, stm_faults, stm_known, known_of_stm}
 use Rattle.kat_syntax.proofs.TypingLaws.{empty_first, empty_second}
 use Rattle.kat_syntax.specs.Machine.{Progress}
-use Rattle.kat_syntax.specs.Meaning.{Locals, Outcome, Done, Out, Fail, is_true, Calls, Part, part_of, value_of_expr}
+use Rattle.kat_syntax.specs.Meaning.{Locals, Outcome, Done, Out, Fail, is_true, Calls, Part, value_of_expr}
 use Rattle.kat_syntax.proofs.MeaningLaws.{whole}
 use Rattle.kat_syntax.specs.Cycle.{register_names}
 use Rattle.kat_syntax.specs.TextLaw.{AreOfTypes, IsStateOf}
@@ -33,6 +33,7 @@ use Rattle.kat_syntax.proofs.SoundExpr.{expressions_sound}
 use Rattle.kat_syntax.proofs.SoundStm.{statements_sound}
 use Rattle.kat_syntax.proofs.SoundRegisters.{IsOfBits, registers_are_of_bits, types_of, type_at, value_known}
 use Rattle.kat_syntax.proofs.SafeExpr.{both_met, expressions_safe}
+use Rattle.kat_syntax.proofs.SafeParts.{part_of_run}
 
 -- a register that has a type has a value
 held_at : (registers : List RegisterDecl) (values : List Value) (at : ℕ) → AreOfTypes registers values → is_some (slice_get (types_of registers) at) ≡ true →
@@ -91,40 +92,6 @@ module _ (spec : Spec) (calls : Calls) (can : IsFirstForm spec) where
   abbrev run : Stm → RunStm
   run = run_stm (registers_of spec.decls) calls
 
-  -- what a statement does as it is run is what it does
-  abbrev HasPart : Stm → Type 0
-  HasPart s = is_first_stm s ≡ true → (run s).part ≡ part s
-
-  abbrev DonePart : Type 0
-  DonePart = (s : Stm) × HasPart s
-
-  abbrev HasPartLayer : Stm-F Stm → Type 0
-  HasPartLayer z =
-      stm_first (map-Stm Stm Bool is_first_stm z) ≡ true →
-      part_of (register_names spec.decls) calls (map-Stm RunStm Part (λ p. p.part) (map-Stm Stm RunStm run z))
-      ≡ part_of (register_names spec.decls) calls (map-Stm Stm Part part z)
-
-  layer_done : (y : Stm-F DonePart) → HasPartLayer (map-Stm DonePart Stm (λ e. e.0) y)
-  layer_done (Ret e) first = refl
-  layer_done (Let x a c) first =
-      let both = and_parts (is_first_stm a.0) (is_first_stm c.0) first in
-      ap (λ (p : Part). part_of (register_names spec.decls) calls (Let x p (run c.0).part)) (a.1 both.0)
-      ∙ ap (λ (p : Part). part_of (register_names spec.decls) calls (Let x (part a.0) p)) (c.1 both.1)
-  layer_done (If test a c) first =
-      let both = and_parts (is_first_stm a.0) (is_first_stm c.0) (and_parts (is_first_expr test) (is_first_stm a.0 && is_first_stm c.0) first).1 in
-      ap (λ (p : Part). part_of (register_names spec.decls) calls (If test p (run c.0).part)) (a.1 both.0)
-      ∙ ap (λ (p : Part). part_of (register_names spec.decls) calls (If test (part a.0) p)) (c.1 both.1)
-  layer_done (Read r) first = refl
-  layer_done (Write r e) first = refl
-  layer_done FailStm first = refl
-  layer_done _ first = absurd (false≢true first)
-
-  part_of_run : (s : Stm) → HasPart s
-  part_of_run = ind-Stm HasPart (λ x y is first.
-      ap (λ (p : RunStm). p.part) (fold-roll-Stm RunStm (run_stm_of (registers_of spec.decls) calls) x)
-      ∙ subst HasPartLayer is (layer_done y) (sym (fold-roll-Stm Bool stm_first x) ∙ first)
-      ∙ sym (fold-roll-Stm Part (part_of (register_names spec.decls) calls) x))
-
   -- a statement that is safe where it has no fault
   abbrev IsSafe : Stm → Type 0
   IsSafe s =
@@ -155,7 +122,7 @@ module _ (spec : Spec) (calls : Calls) (can : IsFirstForm spec) where
       let go : Value → Progress → List Need = λ value next. (run second.0).needs ((x, value) ∷ locals) next in
       both_met ((run first.0).needs locals progress) (needs_behind ((run first.0).part.does locals progress) go)
       (first.1 scope locals progress both_first.0 both_formed.0 first_clean are state)
-      (subst (λ (p : Part). AllByRecursion IsMet (needs_behind (p.does locals progress) go)) (sym (part_of_run first.0 both_first.0))
+      (subst (λ (p : Part). AllByRecursion IsMet (needs_behind (p.does locals progress) go)) (sym (part_of_run (registers_of spec.decls) calls first.0))
       (behind_met spec type ((part first.0).does locals progress) go
       (statements_sound spec calls first.0 scope locals progress can both_first.0 both_formed.0 first_clean are state)
       (λ value next h s. second.1 ((x, type) ∷ scope) ((x, value) ∷ locals) next both_first.1 both_formed.1 second_clean ((refl, h), are) s)))

@@ -23,7 +23,7 @@ use Rattle.kat_syntax.specs.Formed.{is_formed_expr, is_formed_stm}
 use Rattle.kat_syntax.specs.Runnable.{IsFirstForm}
 use Rattle.kat_syntax.specs.Typing.{Scope, known_of_expr, known_of_stm, declared_by}
 use Rattle.kat_syntax.specs.Machine.{MachineState, Progress}
-use Rattle.kat_syntax.specs.Meaning.{Locals, Outcome, Done, Out, Fail, is_true, Calls, Part, part_of, expr_value, value_of_expr}
+use Rattle.kat_syntax.specs.Meaning.{Locals, Outcome, Done, Out, Fail, is_true, Calls, Part, part_of, expr_value, value_of_expr, meaning}
 use Rattle.kat_syntax.specs.Cycle.{call_of}
 use Rattle.kat_syntax.specs.Run.{Event, Run, run_of}
 use Rattle.kat_syntax.specs.TextLaw.{IsOfType, IsStateOf}
@@ -84,6 +84,10 @@ run_expr_of layer = record {
 abbrev pub run_expr : Expr → RunExpr
 run_expr = fold-Expr RunExpr run_expr_of
 
+-- the value with which an expression is run is the one that it means
+abbrev pub ExpressionsRunAsMeant : Type 0
+ExpressionsRunAsMeant = (e : Expr) → (run_expr e).value ≡ value_of_expr e
+
 -- an expression is safe among these locals: all that it needs is met
 abbrev pub IsSafeExpr : Expr → Locals → Type 0
 IsSafeExpr e locals = AllByRecursion IsMet ((run_expr e).needs locals)
@@ -136,6 +140,12 @@ run_stm_of registers calls layer = record {
 
 abbrev pub run_stm : List RegisterDecl → Calls → Stm → RunStm
 run_stm registers calls = fold-Stm RunStm (run_stm_of registers calls)
+
+-- what a statement does as it is run is what it means
+abbrev pub StatementsRunAsMeant : Type 0
+StatementsRunAsMeant =
+    (registers : List RegisterDecl) (calls : Calls) (s : Stm) →
+    (run_stm registers calls s).part.does ≡ meaning (map (λ (register : RegisterDecl). register.name) registers) calls s
 
 -- a statement is safe among these locals and from this progress on: all that it needs is met
 abbrev pub IsSafeStm : List RegisterDecl → Calls → Stm → Locals → Progress → Type 0

@@ -1,6 +1,15 @@
 // What a specification that can be run never meets: a value that is not of the type wanted.
 
-ghost use Rattle.kat_syntax.specs.Safety.{ExpressionsAreSafe, StatementsAreSafe, CyclesAreSafe, RunsAreSafe};
+ghost use Rattle.kat_syntax.specs.Safety.{ExpressionsRunAsMeant, StatementsRunAsMeant, ExpressionsAreSafe, StatementsAreSafe, CyclesAreSafe, RunsAreSafe};
+
+/// What is run, where a need is told, is what is meant: the values that an operation is said to take are those of its parts,
+/// and what a `let` is said to go on with is what its first part leaves. This holds of every expression and every
+/// statement, of any form. The function does nothing: its contract is the law.
+#[tactic(auto, using(crate::proofs::SafeExpr::value_of_run, crate::proofs::SafeParts::statements_run_as_meant))]
+pub fn runs_are_as_meant()
+    ensures expressions { ExpressionsRunAsMeant }
+    ensures statements { StatementsRunAsMeant }
+{}
 
 /// An expression without a fault of typing is safe, among locals that are what their scope says: its meaning falls into none
 /// of its catch-alls. Every name has a local, every literal fits its width, every operation has a value, and `eq` compares
