@@ -81,6 +81,7 @@ run_expr_of layer = record {
   needs = expr_needs layer;
 }
 
+-- a whole expression, as it is run
 abbrev pub run_expr : Expr → RunExpr
 run_expr = fold-Expr RunExpr run_expr_of
 
@@ -138,6 +139,7 @@ run_stm_of registers calls layer = record {
   needs = stm_needs registers layer;
 }
 
+-- a whole statement, as it is run
 abbrev pub run_stm : List RegisterDecl → Calls → Stm → RunStm
 run_stm registers calls = fold-Stm RunStm (run_stm_of registers calls)
 
