@@ -39,8 +39,8 @@ pub fn cycles_are_safe()
 
 /// A run of a specification that can be run is safe, from a state of its machine, with any number of calls in a cycle and
 /// over any cycles and outside writes: the cycle from the state at every boundary is safe, and each cycle of the run starts
-/// at a boundary. So no machine that typing has no fault in meets, in any run, a value that is not of the type wanted,
-/// a name without a value or a register that is not there. The function does nothing: its contract is the law.
+/// at a boundary. So no run of such a machine meets a value that is not of the type wanted, a name without a value or
+/// a register that is not there. The function does nothing: its contract is the law.
 #[tactic(auto, using(crate::proofs::SafeCycle::runs_safe))]
 pub fn runs_are_safe()
     ensures { RunsAreSafe }
