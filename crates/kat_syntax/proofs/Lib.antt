@@ -15,6 +15,10 @@ pub mod SoundFail
 pub mod SoundCycle
 pub mod SoundNames
 pub mod SoundRun
+pub mod SafeExpr
+pub mod SafeParts
+pub mod SafeStm
+pub mod SafeCycle
 pub mod Decoded
 pub mod ExprBack
 pub mod TypeBack

@@ -33,13 +33,13 @@ clean_decl k [] e = refl
 clean_decl k (fault ∷ faults) e = absurd (cc)
 
 -- a function that can be called: it takes nothing, its body is of the first form and has no fault, and its trees are few
-record CanCall (all : List DeclForm) (last : ℕ) (function : Function) : Type 0 where
-  params : function.params ≡ []
-  first : is_first_stm function.body ≡ true
-  formed : is_formed_stm function.body ≡ true
-  clean : (known_of_stm (declared_by all) function.body []).faults ≡ []
-  decl : function.decl < last
-  trees : function.body_at + trees_of_stm function.body < 2 ^ 32
+pub record CanCall (all : List DeclForm) (last : ℕ) (function : Function) : Type 0 where
+  pub params : function.params ≡ []
+  pub first : is_first_stm function.body ≡ true
+  pub formed : is_formed_stm function.body ≡ true
+  pub clean : (known_of_stm (declared_by all) function.body []).faults ≡ []
+  pub decl : function.decl < last
+  pub trees : function.body_at + trees_of_stm function.body < 2 ^ 32
 
 here_called : (all : List DeclForm) (k last : ℕ) (x : Name) (body : Stm) → k < last → is_first_decl (Fun x [] UnitName body) ≡ true →
     decl_faults all (Fun x [] UnitName body) ≡ [] → IsDecl (Fun x [] UnitName body) → IfSome (function_at k (Fun x [] UnitName body)) (CanCall all last)
@@ -53,7 +53,7 @@ here_called all k last x body within first clean is =
       trees = omega (arith, decl_counted (Fun x [] UnitName body), is.small);
     }
 
-called_from : (all : List DeclForm) (k last : ℕ) (decls : List DeclForm) (f : Name) → k + length decls ≤ last → are_first_decls decls ≡ true →
+pub called_from : (all : List DeclForm) (k last : ℕ) (decls : List DeclForm) (f : Name) → k + length decls ≤ last → are_first_decls decls ≡ true →
     inner_faults all k decls ≡ [] → AllByRecursion IsDecl decls → IfSome (function_from k decls f) (CanCall all last)
 called_from all k last [] f within first clean are = tt
 called_from all k last (Fun x [] UnitName body ∷ decls) f within first clean are =

@@ -49,10 +49,10 @@ literal_sound scope w n clean =
     (subst (λ b. IsOfKnown (Some (bits w)) (if b then Number w n else UnitValue)) (sym (numbers_are w n width below)) (number_known w n width below))
 
 -- the type that the first argument fixes is its own, and stays
-first_fixes : (op : Op) (s : Option Ty) → takes op None s ≡ true → fixed_behind op None s ≡ s
+pub first_fixes : (op : Op) (s : Option Ty) → takes op None s ≡ true → fixed_behind op None s ≡ s
 first_fixes op s e = ap (λ b. if b then option_or None s else None) e
 
-fixed_stays : (op : Op) (s t : Option Ty) (u : Value) → IsOfKnown s u → fixed_behind op s t ≡ s
+pub fixed_stays : (op : Op) (s t : Option Ty) (u : Value) → IsOfKnown s u → fixed_behind op s t ≡ s
 fixed_stays op None t u p = absurd p
 fixed_stays op (Some s) t u p =
     elim (cases_Bool (takes op (Some s) t)) [
@@ -90,7 +90,7 @@ SoundPart = (e : Expr) × IsSound e
 abbrev parts_of : List SoundPart → List Expr
 parts_of args = map (λ (e : SoundPart). e.0) args
 
-two_takes_two : (op : Op) → is_first_op op ≡ true → arity_of op ≡ 2
+pub two_takes_two : (op : Op) → is_first_op op ≡ true → arity_of op ≡ 2
 two_takes_two Eq e = refl
 two_takes_two Ult e = refl
 two_takes_two Add e = refl

@@ -67,7 +67,7 @@ known_value : (register : RegisterDecl) (value : Value) → IsOfBits register �
 known_value register value b h =
     subst (λ t. IsOfKnown t value) (sym (known_type register.type b.bits_wide b.is_bits b.is_wide)) (b.is_wide, subst (λ t. IsOfType t value) b.is_bits h)
 
-value_known : (register : RegisterDecl) (type : Option Ty) (value : Value) → IsOfBits register → agree (type_of_name register.type) type ≡ true →
+pub value_known : (register : RegisterDecl) (type : Option Ty) (value : Value) → IsOfBits register → agree (type_of_name register.type) type ≡ true →
     IsOfKnown type value → IsOfType register.type value
 value_known register type value b e h =
     subst (λ t. IsOfType t value) (sym b.is_bits)

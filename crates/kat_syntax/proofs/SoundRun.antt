@@ -76,7 +76,7 @@ outside_writes_sound spec poke state are =
     (outside_written 0 (registers_of spec.decls) state.registers poke.ordinal are.registers)
 
 -- what is left where a write is refused
-or_same : (spec : Spec) (written : Option MachineState) (state : MachineState) → IsStateOf spec state → IfSome written (IsStateOf spec) → IsStateOf spec (unwrap_or written state)
+pub or_same : (spec : Spec) (written : Option MachineState) (state : MachineState) → IsStateOf spec state → IfSome written (IsStateOf spec) → IsStateOf spec (unwrap_or written state)
 or_same spec None state are h = are
 or_same spec (Some written) state are h = h
 

@@ -85,17 +85,17 @@ agreed t None value e p = absurd p
 agreed t (Some u) value e p = subst (λ x. IsOfKnown (Some x) value) (sym (ty_eq-told t u e)) p
 
 -- two numbers of one width
-record AreTwo (w : ℕ) (u v : Value) : Type 0 where
-  m : ℕ
-  n : ℕ
-  width : is_width w ≡ true
-  first : u ≡ Number w m
-  second : v ≡ Number w n
-  small : m < 2 ^ w
-  smaller : n < 2 ^ w
+pub record AreTwo (w : ℕ) (u v : Value) : Type 0 where
+  pub m : ℕ
+  pub n : ℕ
+  pub width : is_width w ≡ true
+  pub first : u ≡ Number w m
+  pub second : v ≡ Number w n
+  pub small : m < 2 ^ w
+  pub smaller : n < 2 ^ w
 
 -- two values of types of bits that agree
-two_numbers : (s t : Option Ty) (u v : Value) → may_be_bits s ≡ true → agree s t ≡ true → IsOfKnown s u → IsOfKnown t v →
+pub two_numbers : (s t : Option Ty) (u v : Value) → may_be_bits s ≡ true → agree s t ≡ true → IsOfKnown s u → IsOfKnown t v →
     (w : ℕ) × (s ≡ Some (bits w)) × AreTwo w u v
 two_numbers None t u v b e p q = absurd p
 two_numbers (Some s) None u v b e p q = absurd q
@@ -111,12 +111,12 @@ both_numbers w m n width small smaller =
     (and_from (is_number w m) (is_number w n) (numbers_are w m width small) (numbers_are w n width smaller))
 
 -- what an operation gives on two numbers of one width
-ult_gives : (w : ℕ) (u v : Value) (two : AreTwo w u v) → value_of_two Ult u v ≡ Some (Truth (nat_lt two.m two.n))
+pub ult_gives : (w : ℕ) (u v : Value) (two : AreTwo w u v) → value_of_two Ult u v ≡ Some (Truth (nat_lt two.m two.n))
 ult_gives w u v two =
     ap (λ x. value_of_two Ult x v) two.first ∙ ap (value_of_two Ult (Number w two.m)) two.second
     ∙ ap (λ b. if b then Some (Truth (nat_lt two.m two.n)) else None) (both_numbers w two.m two.n two.width two.small two.smaller)
 
-add_gives : (w : ℕ) (u v : Value) (two : AreTwo w u v) → value_of_two Add u v ≡ Some (Number w ((two.m + two.n) % 2 ^ w))
+pub add_gives : (w : ℕ) (u v : Value) (two : AreTwo w u v) → value_of_two Add u v ≡ Some (Number w ((two.m + two.n) % 2 ^ w))
 add_gives w u v two =
     ap (λ x. value_of_two Add x v) two.first ∙ ap (value_of_two Add (Number w two.m)) two.second
     ∙ ap (λ b. if b then Some (Number w ((two.m + two.n) % 2 ^ w)) else None) (both_numbers w two.m two.n two.width two.small two.smaller)

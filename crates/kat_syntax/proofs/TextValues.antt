@@ -41,7 +41,7 @@ number_layer w _ h = absurd (false≢true h)
 unit_only : (v : Value) → HasType [] unit v → v ≡ UnitValue
 unit_only v h = sym (roll-out-Value v) ∙ ap roll-Value (unit_layer (out-Value v) (has_layer unit v h)) ∙ rolls-Unit
 
-truth_of : (v : Value) → HasType [] bool v → (b : Bool) × (v ≡ Truth b)
+pub truth_of : (v : Value) → HasType [] bool v → (b : Bool) × (v ≡ Truth b)
 truth_of v h =
     let found = truth_layer (out-Value v) (has_layer bool v h) in
     (found.0, sym (roll-out-Value v) ∙ ap roll-Value found.1 ∙ rolls-Bool found.0)

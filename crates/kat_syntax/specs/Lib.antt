@@ -15,5 +15,6 @@ pub mod StateText
 pub mod MeaningByParts
 pub mod TextLaw
 pub mod Soundness
+pub mod Safety
 pub mod Typing
 pub mod Runnable

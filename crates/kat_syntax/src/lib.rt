@@ -10,6 +10,7 @@ mod decl;
 mod expr;
 mod law;
 mod place;
+mod safety;
 mod soundness;
 mod stm;
 mod tables;
@@ -26,6 +27,9 @@ pub use expr::Expr;
 pub use kat_value::Op;
 pub use law::{statements_do_their_parts, text_tells_its_end, text_tells_states};
 pub use place::Place;
+pub use safety::{
+    cycles_are_safe, expressions_are_safe, runs_are_as_meant, runs_are_safe, statements_are_safe,
+};
 pub use soundness::{
     cycles_are_sound, expressions_are_sound, registers_are_named, runs_are_sound,
     starts_are_states, statements_are_sound, text_tells_its_run, typed_specifications_have_tables,
