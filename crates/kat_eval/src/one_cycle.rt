@@ -29,6 +29,7 @@ pub enum CycleEnd {
     Fail {
         site: Place,
     },
+    /// Memory ran out.
     Memory,
 }
 

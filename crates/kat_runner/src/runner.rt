@@ -28,6 +28,7 @@ pub enum RunEnd {
     Failed { cycle: u64, site: Place },
     /// The sink took no more; its count of faults rose.
     WriteFault,
+    /// Memory ran out.
     Memory,
 }
 

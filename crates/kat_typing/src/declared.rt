@@ -68,6 +68,7 @@ impl Declared {
         let at = self.registers.find(register.as_str()).ok()?;
         self.types.get(at as usize).copied()
     }
+
     // What one more declaration declares beside these names, or `None` where its name stands there already.
     fn with(self, decl: &DeclForm) -> Result<Option<Declared>, AllocError>
         requires names { length self.names < 2 ^ 32 }
