@@ -5,6 +5,12 @@ use Rattle.std.specs.Str.{bytes_eq}
 use Rattle.kat_io.specs.declared.memory.Named.{Named}
 use Rattle.kat_io.specs.declared.reading.ReadError.{ReadError}
 use Rattle.kat_io.specs.declared.reading.ReadError.TheVariants.{Failed, TooLong}
+use Rattle.kat_io.specs.Seen.{FilesSeen}
+
+-- the bytes of the first file of this name
+abbrev pub bytes_of : List Named → List ℕ → Option (List ℕ)
+bytes_of [] name = None
+bytes_of (file ∷ others) name = if bytes_eq file.name name then Some file.bytes else bytes_of others name
 
 -- the files, the numbers of the reads that fail, the reads that were made, and how many failed or went past their limit
 pub record FilesState : Type 0 where
@@ -14,10 +20,9 @@ pub record FilesState : Type 0 where
   pub faults : ℕ
   pub overlong : ℕ
 
--- the bytes of the first file of this name
-abbrev pub bytes_of : List Named → List ℕ → Option (List ℕ)
-bytes_of [] name = None
-bytes_of (file ∷ others) name = if bytes_eq file.name name then Some file.bytes else bytes_of others name
+-- what is seen of files in memory: they tell their bytes
+abbrev pub seen_files : FilesState → FilesSeen
+seen_files state = record { told = bytes_of state.files; faults = state.faults; overlong = state.overlong; reads = state.reads }
 
 -- whether the next read is one of those that fail; its number is counted from 1
 abbrev pub next_read_fails : FilesState → Bool

@@ -1,8 +1,9 @@
 -- A sink that keeps what it takes.
-use Rattle.std.specs.Prelude.{ℕ, ◌+◌, ◌-◌, ◌^◌, ◌==◌, Bool, true, false, List, min, Result, Ok, Err}
+use Rattle.std.specs.Prelude.{ℕ, ◌+◌, ◌-◌, ◌^◌, ◌==◌, Bool, true, false, List, min, Some, Result, Ok, Err}
 use Rattle.std.specs.List.{list_any}
 use Rattle.kat_io.specs.declared.writing.SinkError.{SinkError}
 use Rattle.kat_io.specs.declared.writing.SinkError.TheVariants.{Failed}
+use Rattle.kat_io.specs.Seen.{SinkSeen}
 
 -- what the sink took, the numbers of the writes that fail, and how many writes were made and how many of them failed
 pub record SinkState : Type 0 where
@@ -10,6 +11,10 @@ pub record SinkState : Type 0 where
   pub failing : List ℕ
   pub writes : ℕ
   pub faults : ℕ
+
+-- what is seen of a sink in memory: it tells its contents
+abbrev pub seen_sink : SinkState → SinkSeen
+seen_sink sink = record { contents = Some sink.contents; faults = sink.faults }
 
 -- the number of the next write, counted from 1; it stays at the greatest u64
 abbrev pub next_write : SinkState → ℕ

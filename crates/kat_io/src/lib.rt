@@ -4,6 +4,7 @@
 #![tactic(auto)]
 
 mod host;
+mod laws;
 mod memory;
 mod read_log;
 mod reading;
@@ -12,6 +13,7 @@ mod tests;
 mod writing;
 
 pub use host::{HostFiles, HostSink};
+pub use laws::writes_join;
 pub use memory::{MemoryFiles, MemorySink, Named};
 pub use reading::{Files, ReadError};
 pub use writing::{Sink, SinkError};

@@ -1,7 +1,6 @@
 //! What an implementation of `Files` keeps of its reads.
-ghost use Rattle.std.specs.Prelude.{◌≡◌, ◌≤◌, ◌+◌, length, [], ◌∷◌, ◌++◌, IfErr, OnOk, OnErr};
-ghost use Rattle.kat_io.specs.Counts.{Rose};
-ghost use Rattle.kat_io.specs.ReadErrors.{IfReadFailed, IfTooLong};
+ghost use Rattle.std.specs.Prelude.{◌≡◌, ◌≤◌, ◌+◌, length, [], ◌∷◌, ◌++◌, OnOk, OnErr};
+ghost use Rattle.kat_io.specs.ReadErrors.{faults_after_read, overlong_after_read};
 
 use crate::ReadError;
 use kat_text::Text;
@@ -19,6 +18,7 @@ pub(crate) struct ReadLog {
 }
 
 impl ReadLog {
+    /// The log of no read.
     pub(crate) fn new(alloc: Global) -> ReadLog
         ensures reads { result.reads ≡ [] }
         ensures faults { result.faults ≡ 0 }
@@ -52,10 +52,10 @@ impl ReadLog {
     pub(crate) fn counted(&mut self, answer: Result<(), ReadError>) -> Result<(), ReadError>
         ensures same { result ≡ answer }
         ensures reads { self.new.reads ≡ self.old.reads }
-        ensures faults { self.old.faults ≤ self.new.faults }
-        ensures overlong { self.old.overlong ≤ self.new.overlong }
-        ensures failed { IfErr answer (λ e. IfReadFailed e (Rose self.old.faults self.new.faults)) }
-        ensures too_long { IfErr answer (λ e. IfTooLong e (λ _. Rose self.old.overlong self.new.overlong)) }
+        ensures faults { self.new.faults ≡ faults_after_read answer self.old.faults }
+        ensures overlong { self.new.overlong ≡ overlong_after_read answer self.old.overlong }
+        ensures faults_kept { self.old.faults ≤ self.new.faults }
+        ensures overlong_kept { self.old.overlong ≤ self.new.overlong }
     {
         match answer {
             Err(ReadError::Failed) => self.faults = self.faults.saturating_add(1),
