@@ -170,20 +170,28 @@ impl TextBuilder {
 
 /// The hexadecimal digit of a number at a place, the last one being at 0.
 fn digit_at(number: u64, place: u32) -> char
-    ensures { result ≡ hex_digit ((number / 16 ^ place) % 16) }
+    ensures value { result ≡ hex_digit ((number / 16 ^ place) % 16) }
+    ensures ascii { result < 128 }
 {
-    let digit = if place < 16 {
-        (number >> (4 * place)) % 16
+    char::from(hex_digit(sixteen_at(number, place)))
+}
+
+/// The same as a number.
+fn sixteen_at(number: u64, place: u32) -> u8
+    ensures { result ≡ (number / 16 ^ place) % 16 }
+{
+    if place < 16 {
+        ((number >> (4 * place)) % 16) as u8
     } else {
         0
-    };
-    char::from(hex_digit(digit as u8))
+    }
 }
 
 /// `0` to `9` and `a` to `f`.
 fn hex_digit(digit: u8) -> u8
     requires { digit < 16 }
-    ensures { result ≡ hex_digit digit }
+    ensures value { result ≡ hex_digit digit }
+    ensures ascii { result < 128 }
 {
     if digit < 10 {
         b'0' + digit
