@@ -1,6 +1,6 @@
 use Rattle.kat_tree.proofs.Trees.{lexemes_of-Atom, lexemes_of-List, nesting-Atom, nesting-List}
 use Rattle.kat_tree.proofs.Numbers.{trees_of-Atom, trees_of-List, count_of-Atom}
-use Rattle.kat_tree.proofs.parts.layers.Goals as goal
+use Rattle.kat_tree.proofs.laws.layers.Goals as goal
 
 pub returns-clause-atom_tokens : goal.returns-clause-atom_tokens
 returns-clause-atom_tokens c = lexemes_of-Atom

@@ -1,5 +1,5 @@
-use Rattle.kat_tree.proofs.Owed.{something_owed, owed_same}
-use Rattle.kat_tree.proofs.read.one_outcome.Goals as goal
+use Rattle.kat_tree.proofs.Outcomes.{something_owed, owed_same}
+use Rattle.kat_tree.proofs.laws.one_outcome.Goals as goal
 
 pub returns-clause-some : goal.returns-clause-some
 returns-clause-some c = something_owed

@@ -1,7 +1,7 @@
 use Rattle.kat_tree.proofs.Leaves.{tokens_of-Atom, tokens_of-List}
 use Rattle.kat_tree.proofs.Writing.{text_of_tree-Atom, text_of_tree-List}
 use Rattle.kat_tree.proofs.ByParts.{atom_token, atom_writable, list_writable, parts_writable, part_writable, part_nesting}
-use Rattle.kat_tree.proofs.written.written_layers.Goals as goal
+use Rattle.kat_tree.proofs.laws.written_layers.Goals as goal
 
 pub returns-clause-atom_text : goal.returns-clause-atom_text
 returns-clause-atom_text c = text_of_tree-Atom

@@ -1,5 +1,5 @@
 use Rattle.kat_tree.proofs.Numbers.{at_root_itself, known_places, count_of-List, within, part_places}
-use Rattle.kat_tree.proofs.preorder.places.Goals as goal
+use Rattle.kat_tree.proofs.laws.places.Goals as goal
 
 pub returns-clause-root : goal.returns-clause-root
 returns-clause-root c = at_root_itself

@@ -1,5 +1,5 @@
 use Rattle.kat_tree.proofs.Writing.{spelled}
-use Rattle.kat_tree.proofs.written.written_is_spelled.Goals as goal
+use Rattle.kat_tree.proofs.laws.written_is_spelled.Goals as goal
 
 pub returns : goal.returns
 returns c = spelled
