@@ -1,1 +1,4 @@
+mod Layers
+mod Parts
 mod Positions
+mod Reading
