@@ -1,10 +1,10 @@
 -- Where the statuses of what was printed or run come.
 use Rattle.std.proofs.Common.{◌≡◌, ℕ, ⊎_elim, inl, inr, List, Option, None, Some, Result, Ok, Err, refl, ap, sym, subst, ◌∙◌}
 use Rattle.std.specs.Prelude.{IsSome}
-use Rattle.kat_syntax.specs.declared.decl.Spec.{Spec}
+use Rattle.kat_ast.specs.Spec.{Spec}
 use Rattle.kat_syntax.specs.Tables.{Name}
 use Rattle.kat_syntax.specs.Machine.{MachineState}
-use Rattle.kat_syntax.specs.Describes.{Reads}
+use Rattle.kat_ast.specs.Describes.{Reads}
 use Rattle.kat_image.specs.Image.{IsImageOf}
 use Rattle.kat_top.specs.declared.status.Status.{Status}
 use Rattle.kat_top.specs.declared.refusal.Refusal.{Refusal}

@@ -5,7 +5,7 @@ use Rattle.std.specs.List.{AllByRecursion}
 use Rattle.std.proofs.lemmas.List.Sums.{sum-map, sum_by-cons}
 use Rattle.kat_tree.specs.declared.tree.Tree.{Tree as TextTree}
 use Rattle.kat_tree.specs.Preorder.{count_of}
-use Rattle.kat_syntax.specs.declared.decl.Spec.{Spec}
+use Rattle.kat_ast.specs.Spec.{Spec}
 use Rattle.kat_syntax.specs.Machine.{MachineState}
 use Rattle.kat_top.specs.declared.refusal.Refusal.{Refusal}
 use Rattle.kat_top.specs.declared.refusal.Refusal.TheVariants.{Failed, Long, Tree, Form, Unbuilt, Memory}

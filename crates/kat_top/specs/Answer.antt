@@ -2,14 +2,14 @@
 use Rattle.std.specs.Prelude.{◌≡◌, ℕ, ◌+◌, List, [], ◌++◌, codes, Option, Some, None, Result, Ok, Err, replicate}
 use Rattle.std.specs.Fmt.{decimal}
 use Rattle.kat_io.specs.Contents.{with_bytes, Grew}
-use Rattle.kat_syntax.specs.declared.decl.Spec.{Spec}
+use Rattle.kat_ast.specs.Spec.{Spec}
 use Rattle.kat_syntax.specs.Tables.{Name}
 use Rattle.kat_syntax.specs.Machine.{MachineState}
 use Rattle.kat_syntax.specs.Run.{Cycle, Run, RunEnd, Ended, OutIn, FailedIn, run_of}
 use Rattle.kat_syntax.specs.StateText.{newline, state_text_of}
 use Rattle.kat_top.specs.declared.status.Status.{Status}
 use Rattle.kat_top.specs.declared.status.Status.TheVariants as status
-use Rattle.kat_syntax.specs.Describes.{canonical_text}
+use Rattle.kat_ast.specs.Describes.{canonical_text}
 use Rattle.kat_top.specs.declared.refusal.Refusal.{Refusal}
 use Rattle.kat_top.specs.declared.refusal.Refusal.TheVariants.{Failed, Long, Tree, Form, Unbuilt, Memory}
 use Rattle.kat_top.specs.Refusals.{tree_line, form_line}

@@ -4,7 +4,7 @@ ghost use Rattle.std.specs.Prelude.{◌≡◌};
 ghost use Rattle.kat_top.specs.Refusals.{refused_tree, refused_form};
 
 use kat_forms::FormError;
-use kat_syntax::Wanted;
+use kat_forms::Wanted;
 use kat_tree::TreeError;
 
 /// What is wrong with a text that is no tree, in its first fault.

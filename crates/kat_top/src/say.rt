@@ -4,7 +4,7 @@ ghost use Rattle.std.specs.Prelude.{◌≡◌, ◌≤◌, ◌++◌, ℕ, List, I
 ghost use Rattle.std.specs.Fmt.{decimal};
 ghost use Rattle.kat_io.specs.Counts.{Rose};
 ghost use Rattle.kat_syntax.specs.Run.{OutIn, FailedIn};
-ghost use Rattle.kat_syntax.specs.Describes.{canonical_text};
+ghost use Rattle.kat_ast.specs.Describes.{canonical_text};
 ghost use Rattle.kat_syntax.specs.StateText.{newline, end_piece};
 ghost use Rattle.kat_top.specs.Answer.{Gave, IfWriteFault, IsPlain, refusal_of};
 ghost use Rattle.kat_top.specs.Refusals.{word_of_kind, word_of_wanted, tree_line, form_line};
@@ -16,7 +16,8 @@ use crate::status::Status;
 use kat_io::{Sink, SinkError};
 use kat_print::print_spec;
 use kat_runner::{push_decimal, push_failed, push_out};
-use kat_syntax::{Place, Spec, Wanted};
+use kat_forms::Wanted;
+use kat_syntax::{Place, Spec};
 use std::alloc::{AllocError, Global};
 
 /// Writes a piece, and ends with this status where it was written whole.
