@@ -29,8 +29,9 @@ use Rattle.kat_syntax.specs.Run.{Event, Run, run_of}
 use Rattle.kat_laws.specs.TextLaw.{IsOfType, IsStateOf}
 use Rattle.kat_laws.specs.Soundness.{HasWidth, AreOfScope, CanRun}
 
--- what the meaning needs at one place, so that it falls into none of its catch-alls: a local of a name, a number of a width,
--- values that an operation takes, a truth, a value in a register, a register of a value's type, a form that machines run
+-- what the meaning needs at one place, so that it falls into none of its catch-alls: a local of a
+-- name, a number of a width, values that an operation takes, a truth, a value in a register, a
+-- register of a value's type, a form that machines run
 pub data Need : Type 0 where
   Local : (locals : Locals) (x : Name) → Need
   Literal : (width number : ℕ) → Need
@@ -114,7 +115,8 @@ needs_behind (Done value progress) go = go value progress
 needs_behind Out go = []
 needs_behind (Fail site) go = []
 
--- what one layer of a statement needs, in a machine of these registers, with its parts in their places
+-- what one layer of a statement needs, in a machine of these registers, with its parts in their
+-- places
 abbrev pub stm_needs : List RegisterDecl → Stm-F RunStm → Locals → Progress → List Need
 stm_needs registers (Ret e) locals progress = (run_expr e).needs locals
 stm_needs registers (Let x first second) locals progress =
@@ -160,7 +162,8 @@ StatementsAreSafe =
     is_first_stm s ≡ true → is_formed_stm s ≡ true → (known_of_stm (declared_by spec.decls) s scope).faults ≡ [] →
     AreOfScope scope locals → IsStateOf spec progress.state → IsSafeStm (registers_of spec.decls) calls s locals progress
 
--- a step with these calls left behind it is safe: its function is there and takes nothing, and the body is safe
+-- a step with these calls left behind it is safe: its function is there and takes nothing, and the
+-- body is safe
 pub record IsSafeStep (spec : Spec) (left : ℕ) (state : MachineState) : Type 0 where
   pub step : Name
   pub named : step_of spec.decls ≡ Some step
@@ -178,7 +181,8 @@ IsSafeCycle spec (suc left) state = IsSafeStep spec left state
 abbrev pub CyclesAreSafe : Type 0
 CyclesAreSafe = (spec : Spec) (n : ℕ) (state : MachineState) → CanRun spec → IsStateOf spec state → IsSafeCycle spec n state
 
--- a run is safe: the cycle from each of its boundary states is, and each of its cycles starts at one of them
+-- a run is safe: the cycle from each of its boundary states is, and each of its cycles starts at
+-- one of them
 abbrev pub IsSafeRun : Spec → ℕ → Run → Type 0
 IsSafeRun spec n run = All (IsSafeCycle spec n) run.boundaries
 

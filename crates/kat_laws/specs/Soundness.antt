@@ -1,4 +1,5 @@
--- Type soundness: in a specification without faults of typing, values are of the types that typing says.
+-- Type soundness: in a specification without faults of typing, values are of the types that typing
+-- says.
 use Rattle.std.specs.Prelude.{◌≡◌, ◌<◌, ◌^◌, ◌++◌, ℕ, true, IsTrue, List, [], length, Option, Some, None, IfSome}
 use Rattle.std.specs.List.{AllZip, AllByRecursion}
 use Rattle.kat_value.specs.declared.types.Ty.{Ty}
@@ -40,20 +41,22 @@ IsLocal known local = (known.0 ≡ local.0) × IsOfKnown known.1 local.1
 abbrev pub AreOfScope : Scope → Locals → Type 0
 AreOfScope scope locals = AllZip IsLocal scope locals
 
--- an outcome keeps types: where it is done, its value is of what is known of its type, and its state is one of the machine
+-- an outcome keeps types: where it is done, its value is of what is known of its type, and its
+-- state is one of the machine
 abbrev pub KeepsTypes : Spec → Option Ty → Outcome → Type 0
 KeepsTypes spec type (Done value progress) = IsOfKnown type value × IsStateOf spec progress.state
 KeepsTypes spec type Out = Unit {0}
 KeepsTypes spec type (Fail site) = Unit {0}
 
--- a cycle keeps types: one that completes leaves a state of the machine, and a failure stands at numbers of 32 bits
+-- a cycle keeps types: one that completes leaves a state of the machine, and a failure stands at
+-- numbers of 32 bits
 abbrev pub CycleKeepsTypes : Spec → CycleOutcome → Type 0
 CycleKeepsTypes spec (Completed progress) = IsStateOf spec progress.state
 CycleKeepsTypes spec OutOfCalls = Unit {0}
 CycleKeepsTypes spec (FailedAt place) = (place.decl < 2 ^ 32) × (place.tree < 2 ^ 32)
 
--- a specification that can be run: each declaration is one of the language's text and of the first form, and no tree has
--- a fault of typing
+-- a specification that can be run: each declaration is one of the language's text and of the first
+-- form, and no tree has a fault of typing
 pub record CanRun (spec : Spec) : Type 0 where
   pub first : IsFirstForm spec
   pub written : AllByRecursion IsDecl spec.decls
@@ -76,7 +79,8 @@ StatementsAreSound =
 abbrev pub CyclesAreSound : Type 0
 CyclesAreSound = (spec : Spec) (n : ℕ) (state : MachineState) → CanRun spec → IsStateOf spec state → CycleKeepsTypes spec (cycle_of spec n state)
 
--- an outside write leaves a state of the machine, of any specification: it writes only numbers that fit, to registers of bits
+-- an outside write leaves a state of the machine, of any specification: it writes only numbers that
+-- fit, to registers of bits
 abbrev pub OutsideWritesAreSound : Type 0
 OutsideWritesAreSound = (spec : Spec) (poke : Poke) (state : MachineState) → IsStateOf spec state → IfSome (poked spec poke state) (IsStateOf spec)
 
@@ -88,13 +92,15 @@ StartsAreStates = (spec : Spec) → IsFirstForm spec → IsStateOf spec (start_o
 abbrev pub RegistersAreNamed : Type 0
 RegistersAreNamed = (spec : Spec) → CanRun spec → HasRegisterNames spec
 
--- a run over few enough events is one of the machine, from a state of the machine on and with any number of calls
+-- a run over few enough events is one of the machine, from a state of the machine on and with any
+-- number of calls
 abbrev pub RunsAreSound : Type 0
 RunsAreSound =
     (spec : Spec) (n : ℕ) (start : MachineState) (events : List Event) → CanRun spec → IsStateOf spec start → length events < 2 ^ 64 →
     IsOfMachine spec (run_of spec n start events)
 
--- what makes a run: how many calls each cycle has, a start that is a state of the machine, and few enough events
+-- what makes a run: how many calls each cycle has, a start that is a state of the machine, and few
+-- enough events
 pub record Setup (spec : Spec) : Type 0 where
   pub calls : ℕ
   pub start : MachineState
@@ -112,7 +118,8 @@ TextTellsItsRun =
     (spec : Spec) (first second : Setup spec) → CanRun spec →
     state_text_of spec (run_in spec first) ≡ state_text_of spec (run_in spec second) → run_in spec first ≡ run_in spec second
 
--- where the texts of two runs of a specification begin one text, they are the same run, and so is what follows
+-- where the texts of two runs of a specification begin one text, they are the same run, and so is
+-- what follows
 abbrev pub BeginningTellsItsRun : Type 0
 BeginningTellsItsRun =
     (spec : Spec) (first second : Setup spec) (more other : List ℕ) → CanRun spec →

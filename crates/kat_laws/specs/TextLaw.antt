@@ -60,8 +60,8 @@ TextTellsRun =
     (spec : Spec) (first second : Run) → HasRegisterNames spec → IsOfMachine spec first → IsOfMachine spec second →
     state_text_of spec first ≡ state_text_of spec second → first ≡ second
 
--- where the texts of two runs of one machine begin one text, the runs are the same and so is what follows: the text
--- of a run is no proper beginning of the text of another
+-- where the texts of two runs of one machine begin one text, the runs are the same and so is what
+-- follows: the text of a run is no proper beginning of the text of another
 abbrev pub BeginningTellsRun : Type 0
 BeginningTellsRun =
     (spec : Spec) (first second : Run) (more other : List ℕ) → HasRegisterNames spec → IsOfMachine spec first → IsOfMachine spec second →

@@ -1,4 +1,5 @@
--- The text of a run: a piece for each boundary and one for the end. It is said of the boundary states alone.
+-- The text of a run: a piece for each boundary and one for the end. It is said of the boundary
+-- states alone.
 use Rattle.std.specs.Prelude.{ℕ, zero, suc, true, false, ◌+◌, ◌-◌, ◌/◌, ◌%◌, if◌then◌else◌, nat_lt, List, [], ◌∷◌, ◌++◌, length, codes}
 use Rattle.std.specs.Fmt.{decimal}
 use Rattle.kat_value.specs.declared.value.Value.{Value}
@@ -54,7 +55,8 @@ boundary_piece k lines = codes "at " ++ decimal k ++ newline ++ lines
 abbrev pub later_pieces : List Name → ℕ → MachineState → List MachineState → List (List ℕ)
 later_pieces names k before [] = []
 later_pieces names k before (state ∷ states) =
-    boundary_piece k (changed_lines names before.registers state.registers) ∷ later_pieces names (k + 1) state states
+    boundary_piece k (changed_lines names before.registers state.registers)
+    ∷ later_pieces names (k + 1) state states
 
 -- boundary 0 has every register, a later one those whose value is not that of the boundary before
 abbrev pub boundary_pieces : List Name → List MachineState → List (List ℕ)
@@ -67,7 +69,8 @@ abbrev pub end_piece : ℕ → RunEnd → List ℕ
 end_piece last Ended = codes "ended " ++ decimal last ++ newline
 end_piece last (OutIn cycle) = codes "out " ++ decimal cycle ++ newline
 end_piece last (FailedIn cycle place) =
-    codes "failed " ++ decimal cycle ++ codes " " ++ decimal place.decl ++ codes " " ++ decimal place.tree ++ newline
+    codes "failed " ++ decimal cycle ++ codes " " ++ decimal place.decl
+    ++ codes " " ++ decimal place.tree ++ newline
 
 -- pieces one after another
 abbrev pub joined : List (List ℕ) → List ℕ

@@ -1,5 +1,6 @@
--- The faults of typing: each condition that makes a specification ill-typed, at each tree where it holds. This is said
--- of the forms of the machines that can be run today. Any other form adds nothing yet.
+-- The faults of typing: each condition that makes a specification ill-typed, at each tree where it
+-- holds. This is said of the forms of the machines that can be run today. Any other form adds
+-- nothing yet.
 use Rattle.std.specs.Prelude.{ℕ, ◌+◌, ◌^◌, ◌==◌, ◌&&◌, ◌||◌, nat_le, nat_lt, Bool, true, false, not, if◌then◌else◌, List, [], ◌∷◌, ◌++◌, length, map, Option, None, Some, is_some, option_and_then, slice_get}
 use Rattle.std.specs.List.{list_any}
 use Rattle.std.specs.Option.{option_or, option_flatten}
@@ -21,6 +22,7 @@ use Rattle.kat_ast.specs.declared.decl.DeclForm.{DeclForm}
 use Rattle.kat_ast.specs.declared.decl.DeclForm.TheVariants.{Register, Fun, Step}
 use Rattle.kat_ast.specs.Spec.{Spec}
 use Rattle.kat_ast.specs.Trees.{expr_trees, trees_of_expr, stm_trees}
+use Rattle.kat_syntax.specs.Limits.{most_declarations}
 use Rattle.kat_syntax.specs.Tables.{Name, RegisterDecl, registers_of, function_from}
 
 -- a fault inside a form: its tree, the form being tree 0, and the code of the condition
@@ -28,7 +30,8 @@ pub record Fault : Type 0 where
   pub tree : ℕ
   pub code : ℕ
 
--- a fault of a specification: its declaration, its tree in the declaration, and the code of the condition
+-- a fault of a specification: its declaration, its tree in the declaration, and the code of the
+-- condition
 pub record TypeFault : Type 0 where
   pub decl : ℕ
   pub tree : ℕ
@@ -76,11 +79,13 @@ unless holds tree code = if holds then [] else record { tree = tree; code = code
 
 -- the faults of a part whose tree has this number
 abbrev pub inside : ℕ → List Fault → List Fault
-inside at faults = map (λ (fault : Fault). record { tree = at + fault.tree; code = fault.code }) faults
+inside at faults =
+    map (λ (fault : Fault). record { tree = at + fault.tree; code = fault.code }) faults
 
 -- the faults of the declaration that has this number
 abbrev pub in_decl : ℕ → List Fault → List TypeFault
-in_decl k faults = map (λ (fault : Fault). record { decl = k; tree = fault.tree; code = fault.code }) faults
+in_decl k faults =
+    map (λ (fault : Fault). record { decl = k; tree = fault.tree; code = fault.code }) faults
 
 -- whether two types are the same
 abbrev pub ty_eq : Ty → Ty → Bool
@@ -132,7 +137,8 @@ pub record Declared : Type 0 where
 
 -- the type of the first register of this name, if there is one
 abbrev pub register_type : Declared → Name → Option (Option Ty)
-register_type declared r = option_and_then (λ at. slice_get declared.types at) (position_of declared.registers r)
+register_type declared r =
+    option_and_then (λ at. slice_get declared.types at) (position_of declared.registers r)
 
 -- whether a name stands among names
 abbrev pub is_among : List Name → Name → Bool
@@ -147,7 +153,8 @@ abbrev pub local_type : Scope → Name → Option (Option Ty)
 local_type [] x = None
 local_type (local ∷ scope) x = if bytes_eq local.0 x then Some local.1 else local_type scope x
 
--- what typing knows of a form: how many trees it has, its type where something fixes it, and its faults
+-- what typing knows of a form: how many trees it has, its type where something fixes it, and its
+-- faults
 pub record Known : Type 0 where
   pub trees : ℕ
   pub type : Option Ty
@@ -181,7 +188,8 @@ abbrev pub args_faults : Op → Option Ty → ℕ → List Known → List Fault
 args_faults op fixed at [] = []
 args_faults op fixed at (arg ∷ args) =
     inside at arg.faults
-    ++ (unless (takes op fixed arg.type) at type_other ++ args_faults op (fixed_behind op fixed arg.type) (at + arg.trees) args)
+    ++ (unless (takes op fixed arg.type) at type_other
+    ++ args_faults op (fixed_behind op fixed arg.type) (at + arg.trees) args)
 
 -- the type of one layer of an expression
 abbrev pub expr_type : Scope → Expr-F Known → Option Ty
@@ -194,7 +202,8 @@ expr_type scope _ = None
 -- the faults of one layer of an expression: its own, and those of its parts
 abbrev pub expr_faults : Scope → Expr-F Known → List Fault
 expr_faults scope (Named x) = unless (is_some (local_type scope x)) 0 name_unknown
-expr_faults scope (Bits width number) = unless (is_width width) 2 no_width ++ unless (nat_lt number (2 ^ width)) 3 literal_large
+expr_faults scope (Bits width number) =
+    unless (is_width width) 2 no_width ++ unless (nat_lt number (2 ^ width)) 3 literal_large
 expr_faults scope (Apply op args) = args_faults op None 2 args
 expr_faults scope _ = []
 
@@ -238,9 +247,10 @@ stm_faults declared (If test then_ otherwise) scope =
     ++ unless (agree (then_ scope).type (otherwise scope).type) 0 branches_differ)))
 stm_faults declared (Read r) scope = unless (is_some (register_type declared r)) 2 name_unknown
 stm_faults declared (Write r e) scope =
+    let wanted = option_flatten (register_type declared r) in
     unless (is_some (register_type declared r)) 2 name_unknown
     ++ (inside 3 (known_of_expr scope e).faults
-    ++ unless (agree (option_flatten (register_type declared r)) (known_of_expr scope e).type) 3 type_other)
+    ++ unless (agree wanted (known_of_expr scope e).type) 3 type_other)
 stm_faults declared _ scope = []
 
 -- one layer of a statement, with what is known of each part in its place
@@ -303,24 +313,30 @@ decl_faults decls _ = []
 -- the faults inside the declarations, the first having the number k
 abbrev pub inner_faults : List DeclForm → ℕ → List DeclForm → List TypeFault
 inner_faults decls k [] = []
-inner_faults decls k (decl ∷ more) = in_decl k (decl_faults decls decl) ++ inner_faults decls (k + 1) more
+inner_faults decls k (decl ∷ more) =
+    in_decl k (decl_faults decls decl) ++ inner_faults decls (k + 1) more
 
 -- whether a declaration is a step declaration
 abbrev pub is_step : DeclForm → Bool
 is_step (Step f) = true
 is_step _ = false
 
--- each second step declaration, and a missing one; the first declaration has the number k, and a step stands before it or not
+-- each second step declaration, and a missing one; the first declaration has the number k, and a
+-- step stands before it or not
 abbrev pub step_faults : Bool → ℕ → List DeclForm → List TypeFault
 step_faults seen k [] = in_decl k (unless seen 0 not_once)
-step_faults seen k (decl ∷ decls) = in_decl k (unless (not (seen && is_step decl)) 0 not_once) ++ step_faults (seen || is_step decl) (k + 1) decls
+step_faults seen k (decl ∷ decls) =
+    in_decl k (unless (not (seen && is_step decl)) 0 not_once)
+    ++ step_faults (seen || is_step decl) (k + 1) decls
 
--- a specification has at most 4,096 declarations; the fault stands at the first that is too many
+-- more declarations than a specification may have; the fault stands at the first that is too many
 abbrev pub count_faults : List DeclForm → List TypeFault
-count_faults decls = in_decl 4096 (unless (nat_le (length decls) 4096) 0 too_many)
+count_faults decls =
+    in_decl most_declarations (unless (nat_le (length decls) most_declarations) 0 too_many)
 
 -- all faults of a specification
 abbrev pub type_faults : Spec → List TypeFault
 type_faults spec =
     count_faults spec.decls
-    ++ (step_faults false 0 spec.decls ++ (taken_faults [] (names_from 0 spec.decls) ++ inner_faults spec.decls 0 spec.decls))
+    ++ (step_faults false 0 spec.decls
+    ++ (taken_faults [] (names_from 0 spec.decls) ++ inner_faults spec.decls 0 spec.decls))

@@ -69,7 +69,8 @@ impl Declared {
         self.types.get(at as usize).copied()
     }
 
-    // What one more declaration declares beside these names, or `None` where its name stands there already.
+    // What one more declaration declares beside these names, or `None` where its name stands there
+    // already.
     fn with(self, decl: &DeclForm) -> Result<Option<Declared>, AllocError>
         requires names { length self.names < 2 ^ 32 }
         requires registers { length self.registers < 2 ^ 32 }

@@ -1,5 +1,6 @@
-//! Whether a specification can be run: each declaration is of a form that the interpreter has, and no tree has a fault
-//! of typing. The answer is exact both ways. A fault of any kind is answered alike: the first one ends the search.
+//! Whether a specification can be run: each declaration is of a form that the interpreter has, and
+//! no tree has a fault of typing. The answer is exact both ways. A fault of any kind is answered
+//! alike: the first one ends the search.
 #![tactic(auto)]
 
 mod declared;
