@@ -5,10 +5,10 @@
 
 mod declared;
 mod expr;
-mod first_form;
 mod forms;
+mod runnable;
 mod scope;
 mod stm;
 mod types;
 
-pub use first_form::is_first_form;
+pub use runnable::is_runnable;

@@ -12,13 +12,13 @@ pub overflow_add-result : goal.overflow_add-result
 overflow_add-result c =
     let at =
     body_place c.places_are_of_the_tree.ensures.decl _ _ _ _ _ _ c.in-Fun.body _ (trees_of_type c.in-Fun.result) c.form.ensures.kept c.form.ensures.form c.in-Fun.is
-    c.as_slice-in-Fun.ensures c.count_params.ensures refl in
+    c.as_slice.ensures c.count_params.ensures refl in
     omega (arith, at.small)
 
 pub overflow_add-result-in-Fun : goal.overflow_add-result-in-Fun
 overflow_add-result-in-Fun c =
     let at =
-    body_place c.places_are_of_the_tree.ensures.decl _ _ _ _ _ _ c.in-Fun.body _ _ c.form.ensures.kept c.form.ensures.form c.in-Fun.is c.as_slice-in-Fun.ensures c.count_params.ensures
+    body_place c.places_are_of_the_tree.ensures.decl _ _ _ _ _ _ c.in-Fun.body _ _ c.form.ensures.kept c.form.ensures.form c.in-Fun.is c.as_slice.ensures c.count_params.ensures
     c.count_type.ensures in
     omega (arith, at.small)
 
@@ -26,7 +26,7 @@ overflow_add-result-in-Fun c =
 pub returns-clause-found : goal.returns-clause-found
 returns-clause-found c =
     let at =
-    body_place c.places_are_of_the_tree.ensures.decl _ _ _ _ _ _ c.in-Fun.body _ _ c.form.ensures.kept c.form.ensures.form c.in-Fun.is c.as_slice-in-Fun.ensures c.count_params.ensures
+    body_place c.places_are_of_the_tree.ensures.decl _ _ _ _ _ _ c.in-Fun.body _ _ c.form.ensures.kept c.form.ensures.form c.in-Fun.is c.as_slice.ensures c.count_params.ensures
     c.count_type.ensures in (
       c.in-Fun.params,
       rw (sym c.self.view_is) (c.self.invariant.steps.found
@@ -37,7 +37,7 @@ returns-clause-found c =
 -- a declaration has fewer than 2^32 trees
 pub returns-clause-small : goal.returns-clause-small
 returns-clause-small c =
-    (body_place c.places_are_of_the_tree.ensures.decl _ _ _ _ _ _ c.in-Fun.body _ _ c.form.ensures.kept c.form.ensures.form c.in-Fun.is c.as_slice-in-Fun.ensures c.count_params.ensures
+    (body_place c.places_are_of_the_tree.ensures.decl _ _ _ _ _ _ c.in-Fun.body _ _ c.form.ensures.kept c.form.ensures.form c.in-Fun.is c.as_slice.ensures c.count_params.ensures
     c.count_type.ensures).small
 
 -- the body is that of a declaration of the specification
