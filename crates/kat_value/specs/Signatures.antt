@@ -78,12 +78,14 @@ is_test _ at = false
 -- the type that is fixed behind the argument at a position: by the first that is known and may stand there
 abbrev pub fixed_behind : Signature → ℕ → Option Ty → Option Ty → Option Ty
 fixed_behind signature at fixed type =
-    if is_test signature at then fixed else if takes signature at fixed type then option_or fixed type else fixed
+    if is_test signature at then fixed
+    else if takes signature at fixed type then option_or fixed type else fixed
 
 -- the type that arguments fix, the first of them at this position
 abbrev pub fixed_from : Signature → ℕ → Option Ty → List (Option Ty) → Option Ty
 fixed_from signature at fixed [] = fixed
-fixed_from signature at fixed (type ∷ types) = fixed_from signature (at + 1) (fixed_behind signature at fixed type) types
+fixed_from signature at fixed (type ∷ types) =
+    fixed_from signature (at + 1) (fixed_behind signature at fixed type) types
 
 -- the type that all arguments fix
 abbrev pub fixed_by : Signature → List (Option Ty) → Option Ty

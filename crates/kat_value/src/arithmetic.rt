@@ -15,7 +15,8 @@ pub fn apply(op: Op, width: u32, a: u64, b: u64) -> u64
     requires { CanApply op width a b }
     ensures value { result ≡ number_of_op op width a b }
     ensures within { result < 2 ^ width_of_op op width }
-    ensures joined { op ≡ Op.Cat → (v : ℕ) → a < 2 ^ v → result < 2 ^ (v + width) }
+    ensures joined { op ≡ Op.Cat → (v : ℕ) → a < 2 ^ v →
+        result < 2 ^ (v + width) }
 {
     match op {
         Op::Eq => u64::from(a == b),
