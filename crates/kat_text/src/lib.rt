@@ -4,6 +4,8 @@
 #![tactic(auto)]
 
 mod builder;
+#[cfg(test)]
+mod tests;
 mod text;
 
 pub use builder::TextBuilder;
