@@ -6,3 +6,5 @@ mod Misfits
 mod Judgements
 mod Later
 mod Going
+mod Operations
+mod Rests

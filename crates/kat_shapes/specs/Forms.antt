@@ -1,14 +1,16 @@
 -- The table of forms: the word with which each begins, and what its parts are read as.
-use Rattle.std.specs.Prelude.{ℕ, ◌+◌, ◌-◌, ◌==◌, nat_le, Bool, true, false, ◌&&◌, ◌||◌, not, if◌then◌else◌, List, [], ◌∷◌, ◌++◌, length, replicate, codes, Option, Some, None}
+use Rattle.std.specs.Prelude.{ℕ, ◌+◌, ◌-◌, ◌==◌, nat_le, Bool, true, false, ◌&&◌, ◌||◌, not, if◌then◌else◌, List, [], ◌∷◌, ◌++◌, length, map, replicate, codes, Option, Some, None}
 use Rattle.std.specs.Option.{option_map, option_and_then}
 use Rattle.std.specs.Str.{bytes_eq}
 use Rattle.kat_tree.specs.declared.tree.Token.{Token}
 use Rattle.kat_tree.specs.declared.tree.Token.TheVariants as token
+use Rattle.kat_value.specs.declared.op.Op.{Op}
+use Rattle.kat_value.specs.Words.{word_of_op, numbers_of_op, arity_of, written_ops}
 use Rattle.kat_shapes.specs.declared.sort.Sort.{Sort}
 use Rattle.kat_shapes.specs.declared.sort.Sort.TheVariants.{Spec, Version, Declaration, TypeName, Name, Number, RegisterPlace, CellsPlace, Statement, Expression, Assertion, Phase, Members, Params, Fields, Param, CaseArm, MatchArm, Pre, Res, Post, Steps, When, Else, Entry, Within, Change, Word}
 
--- Parts of these sorts, then any number of one sort, then last parts; with no sort in the middle none stand there. The
--- word that begins a form is a part too. A form is there from a version of the text on.
+-- Parts of these sorts, then any number of one sort, then last parts; with no sort in the middle none
+-- stand there. The word that begins a form is a part too. It is there from a version on.
 pub record Form : Type 0 where
   pub since : ℕ
   pub first : List Sort
@@ -79,10 +81,20 @@ statements =
     ∷ (codes "lemma", many (Word ∷ Name ∷ []) Expression)
     ∷ []
 
--- the expressions that are lists
+-- what the parts of an operation are read as: its word, its numbers, and its arguments
+abbrev pub form_of_op : Op → Form
+form_of_op op =
+    let numbers = replicate (length (numbers_of_op op)) Number in
+    exactly (Word ∷ (numbers ++ replicate (arity_of op) Expression))
+
+-- the operations, as kat_value's table has them
+abbrev pub operations : Rows Form
+operations = map (λ op. (word_of_op op, form_of_op op)) written_ops
+
+-- the expressions that are lists: the operations are the last rows
 abbrev pub expressions : Rows Form
 expressions =
-    (codes "bits", exactly (Word ∷ Number ∷ Number ∷ []))
+    ((codes "bits", exactly (Word ∷ Number ∷ Number ∷ []))
     ∷ (codes "of", exactly (Word ∷ Name ∷ Name ∷ []))
     ∷ (codes "make", exactly (Word ∷ Name ∷ Expression ∷ []))
     ∷ (codes "rec", many (Word ∷ Name ∷ []) Expression)
@@ -94,30 +106,8 @@ expressions =
     ∷ (codes "before_cell", exactly (Word ∷ Number ∷ []))
     ∷ (codes "after_cell", exactly (Word ∷ Number ∷ []))
     ∷ (codes "get", exactly (Word ∷ Name ∷ Name ∷ Expression ∷ []))
-    ∷ (codes "slice", exactly (Word ∷ Number ∷ Number ∷ Expression ∷ []))
-    ∷ (codes "zext", exactly (Word ∷ Number ∷ Expression ∷ []))
-    ∷ (codes "sext", exactly (Word ∷ Number ∷ Expression ∷ []))
-    ∷ (codes "not", exactly (Word ∷ Expression ∷ []))
-    ∷ (codes "and", exactly (Word ∷ Expression ∷ Expression ∷ []))
-    ∷ (codes "or", exactly (Word ∷ Expression ∷ Expression ∷ []))
-    ∷ (codes "eq", exactly (Word ∷ Expression ∷ Expression ∷ []))
-    ∷ (codes "ult", exactly (Word ∷ Expression ∷ Expression ∷ []))
-    ∷ (codes "ule", exactly (Word ∷ Expression ∷ Expression ∷ []))
-    ∷ (codes "slt", exactly (Word ∷ Expression ∷ Expression ∷ []))
-    ∷ (codes "sle", exactly (Word ∷ Expression ∷ Expression ∷ []))
-    ∷ (codes "add", exactly (Word ∷ Expression ∷ Expression ∷ []))
-    ∷ (codes "sub", exactly (Word ∷ Expression ∷ Expression ∷ []))
-    ∷ (codes "mul", exactly (Word ∷ Expression ∷ Expression ∷ []))
-    ∷ (codes "band", exactly (Word ∷ Expression ∷ Expression ∷ []))
-    ∷ (codes "bor", exactly (Word ∷ Expression ∷ Expression ∷ []))
-    ∷ (codes "bxor", exactly (Word ∷ Expression ∷ Expression ∷ []))
-    ∷ (codes "bnot", exactly (Word ∷ Expression ∷ []))
-    ∷ (codes "shl", exactly (Word ∷ Expression ∷ Expression ∷ []))
-    ∷ (codes "shr", exactly (Word ∷ Expression ∷ Expression ∷ []))
-    ∷ (codes "sar", exactly (Word ∷ Expression ∷ Expression ∷ []))
-    ∷ (codes "cat", exactly (Word ∷ Expression ∷ Expression ∷ []))
-    ∷ (codes "ite", exactly (Word ∷ Expression ∷ Expression ∷ Expression ∷ []))
-    ∷ []
+    ∷ [])
+    ++ operations
 
 -- the assertions
 abbrev pub assertions : Rows Form
@@ -176,7 +166,8 @@ form_in version form = if nat_le form.since version then Some form else None
 -- the form of a list that begins with this word, if it does with one
 abbrev pub form_of_word : ℕ → Sort → Option (List ℕ) → Option Form
 form_of_word version sort None = None
-form_of_word version sort (Some word) = option_and_then (form_in version) (row_of (forms_of sort) word)
+form_of_word version sort (Some word) =
+    option_and_then (form_in version) (row_of (forms_of sort) word)
 
 -- the form of a list, in a version of the text: by its place or by its first word
 abbrev pub form_of : ℕ → Sort → Option (List ℕ) → Option Form
@@ -201,13 +192,17 @@ sorts_of form count =
         (middles form.middle (count - (length form.first + length form.last)))
     else None
 
--- what the parts of a list are read as, by its first word and their count; none where it has no form of the sort
+-- what the parts of a list are read as, by its first word and their count; none where it has no
+-- form of the sort
 abbrev pub sorts_for : ℕ → Sort → Option (List ℕ) → ℕ → Option (List Sort)
-sorts_for version sort first count = option_and_then (λ form. sorts_of form count) (form_of version sort first)
+sorts_for version sort first count =
+    option_and_then (λ form. sorts_of form count) (form_of version sort first)
 
 -- a name other than `true`, `false` and `unit`
 abbrev pub is_name : List ℕ → Bool
-is_name x = not (bytes_eq x (codes "true")) && (not (bytes_eq x (codes "false")) && not (bytes_eq x (codes "unit")))
+is_name x =
+    not (bytes_eq x (codes "true"))
+    && (not (bytes_eq x (codes "false")) && not (bytes_eq x (codes "unit")))
 
 -- a version that there is
 abbrev pub is_version : ℕ → Bool
@@ -227,7 +222,8 @@ abbrev pub fits_token : ℕ → Sort → Token → Bool
 fits_token version Version (token.Number n) = is_version n
 fits_token version Number (token.Number n) = true
 fits_token version Name (token.Name x) = is_name x
-fits_token version TypeName (token.Name x) = not (bytes_eq x (codes "true")) && not (bytes_eq x (codes "false"))
+fits_token version TypeName (token.Name x) =
+    not (bytes_eq x (codes "true")) && not (bytes_eq x (codes "false"))
 fits_token version Expression (token.Name x) = true
 fits_token version Word token = true
 fits_token version sort (token.Number n) = false

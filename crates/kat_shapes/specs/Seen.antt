@@ -7,7 +7,12 @@ use Rattle.kat_shapes.specs.Forms.{Form}
 
 -- a form of the code, as the definitions see it
 abbrev pub seen_form : CodeForm → Form
-seen_form form = record { since = form.since; first = form.first.now; middle = form.middle; last = form.last.now }
+seen_form form = record {
+  since = form.since;
+  first = form.first.now;
+  middle = form.middle;
+  last = form.last.now;
+}
 
 -- whether the forms of a sort are few; the others have tables of their own
 abbrev pub is_small : Sort → Bool

@@ -7,8 +7,8 @@ ghost use Rattle.kat_shapes.specs.Seen.{seen_form};
 
 use crate::sort::Sort;
 
-/// What the parts of a list are read as, the word that begins it among them: first parts, then any number of one sort,
-/// then last parts.
+/// What the parts of a list are read as, the word that begins it among them: first parts, then any
+/// number of one sort, then last parts.
 #[derive(Clone, Copy, Drop)]
 pub(crate) struct Form {
     /// The first version of the text that has it.
@@ -59,10 +59,11 @@ pub(crate) fn has_count(form: &Form, count: usize) -> bool
         && (form.middle.is_some() || count - before == behind)
 }
 
-/// The sort of the part at a position, in a list of so many parts; `None` where a list of this form has not so many,
-/// or the position is past its end.
+/// The sort of the part at a position, in a list of so many parts; `None` where a list of this form
+/// has not so many, or the position is past its end.
 pub(crate) fn sort_at(form: &Form, count: usize, at: usize) -> Option<Sort>
-    ensures { result ≡ option_and_then (λ sorts. slice_get sorts at) (sorts_of (seen_form form.now) count) }
+    ensures { result
+        ≡ option_and_then (λ sorts. slice_get sorts at) (sorts_of (seen_form form.now) count) }
 {
     let (before, behind) = (form.first.len(), form.last.len());
     if count < before || count - before < behind || at >= count {

@@ -1,8 +1,9 @@
-//! The table of forms: the word with which each begins, and what its parts are read as. Each row stands in `specs/` too.
+//! The table of forms: the word with which each begins, and what its parts are read as. Each row
+//! stands in `specs/Forms` too.
 
 ghost use Rattle.std.specs.Prelude.{◌≡◌, if◌then◌else◌, None};
 ghost use Rattle.std.specs.Option.{option_map, option_and_then};
-ghost use Rattle.kat_shapes.specs.Forms.{declarations, statements, expressions, assertions, forms_of, form_by_place, form_in, form_of, row_of, words_of};
+ghost use Rattle.kat_shapes.specs.Forms.{declarations, statements, expressions, operations, assertions, forms_of, form_in, form_of, form_of_op, row_of, words_of};
 ghost use Rattle.kat_shapes.specs.Seen.{seen_form, is_small};
 
 use crate::form::{Form, between, exactly, many};
@@ -11,10 +12,13 @@ use crate::sort::Sort::{
     MatchArm, Members, Name, Number, Param, Params, Phase, Post, Pre, RegisterPlace, Res,
     Statement, Steps, TypeName, Version, When, Within, Word,
 };
+use kat_value::{Op, op_of_word};
 
-/// The form of a list that is read as a sort, in a version of the text: by where it stands, or by its first word.
+/// The form of a list that is read as a sort, in a version of the text: by where it stands, or by its
+/// first word.
 pub(crate) fn form_of(version: u64, sort: Sort, first: Option<&str>) -> Option<Form>
-    ensures { option_map seen_form result ≡ form_of version sort (option_map (λ word. word.now) first.entry) }
+    ensures { option_map seen_form result
+        ≡ form_of version sort (option_map (λ word. word.now) first.entry) }
 {
     match sort {
         Members => Some(many(&[Name], Name)),
@@ -119,30 +123,27 @@ fn expression(word: &str) -> Option<Form>
         "before_cell" => Some(exactly(&[Word, Number])),
         "after_cell" => Some(exactly(&[Word, Number])),
         "get" => Some(exactly(&[Word, Name, Name, Expression])),
-        "slice" => Some(exactly(&[Word, Number, Number, Expression])),
-        "zext" => Some(exactly(&[Word, Number, Expression])),
-        "sext" => Some(exactly(&[Word, Number, Expression])),
-        "not" => Some(exactly(&[Word, Expression])),
-        "and" => Some(exactly(&[Word, Expression, Expression])),
-        "or" => Some(exactly(&[Word, Expression, Expression])),
-        "eq" => Some(exactly(&[Word, Expression, Expression])),
-        "ult" => Some(exactly(&[Word, Expression, Expression])),
-        "ule" => Some(exactly(&[Word, Expression, Expression])),
-        "slt" => Some(exactly(&[Word, Expression, Expression])),
-        "sle" => Some(exactly(&[Word, Expression, Expression])),
-        "add" => Some(exactly(&[Word, Expression, Expression])),
-        "sub" => Some(exactly(&[Word, Expression, Expression])),
-        "mul" => Some(exactly(&[Word, Expression, Expression])),
-        "band" => Some(exactly(&[Word, Expression, Expression])),
-        "bor" => Some(exactly(&[Word, Expression, Expression])),
-        "bxor" => Some(exactly(&[Word, Expression, Expression])),
-        "bnot" => Some(exactly(&[Word, Expression])),
-        "shl" => Some(exactly(&[Word, Expression, Expression])),
-        "shr" => Some(exactly(&[Word, Expression, Expression])),
-        "sar" => Some(exactly(&[Word, Expression, Expression])),
-        "cat" => Some(exactly(&[Word, Expression, Expression])),
-        "ite" => Some(exactly(&[Word, Expression, Expression, Expression])),
-        _ => None,
+        _ => operation(word),
+    }
+}
+
+/// The operation that a word begins.
+fn operation(word: &str) -> Option<Form>
+    ensures { option_map seen_form result ≡ row_of operations word.now }
+{
+    Some(form_of_op(op_of_word(word)?))
+}
+
+/// What the parts of an operation are read as.
+fn form_of_op(op: Op) -> Form
+    ensures { seen_form result ≡ form_of_op op }
+{
+    match op {
+        Op::Not | Op::Bnot | Op::Get { .. } => exactly(&[Word, Expression]),
+        Op::Ite => exactly(&[Word, Expression, Expression, Expression]),
+        Op::Slice { .. } => exactly(&[Word, Number, Number, Expression]),
+        Op::Zext { .. } | Op::Sext { .. } => exactly(&[Word, Number, Expression]),
+        _ => exactly(&[Word, Expression, Expression]),
     }
 }
 
@@ -165,7 +166,8 @@ fn assertion(word: &str) -> Option<Form>
 
 /// The form of a sort that has one form alone, or few.
 fn small(sort: Sort, word: &str) -> Option<Form>
-    ensures { option_map seen_form result ≡ if is_small sort then row_of (forms_of sort) word.now else None }
+    ensures { option_map seen_form result
+        ≡ if is_small sort then row_of (forms_of sort) word.now else None }
 {
     match (sort, word) {
         (Sort::Spec, "spec") => Some(many(&[Word, Version], Declaration)),

@@ -11,7 +11,8 @@ use kat_tree::{Token, Tree};
 /// The newest version of the text.
 pub const NEWEST: u64 = 1;
 
-/// The version of a text whose root is of this sort: a specification states its own, all else is of the newest.
+/// The version of a text whose root is of this sort: a specification states its own, all else is of
+/// the newest.
 pub(crate) fn version_of(tree: &Tree, root: Sort) -> u64
     ensures { result ≡ version_of root tree.now }
 {

@@ -11,14 +11,14 @@ use Rattle.kat_shapes.proofs.judging.+judge_from.Goals as goal
 pub returns-in_default : goal.returns-in_default
 returns-in_default t c =
     let is = c.in-List.is ∙ ap variant.List (sym c.as_slice-parts.ensures) in
-    let none = sym (c.in_default.ensures ∙ ap (form_of c.args.version c.args.sort) c.first_word.ensures) in
+    let none = sym (c.in_default.ensures ∙ ap (form_of c.args.version c.args.sort) c.first_word.ensures.word) in
     misfit_here c.args.version c.args.sort c.args.tree.now c.args.place c.at-in_default.result (omega arith)
     (formless_list c.args.version c.args.sort c.args.tree.now c.as_slice-parts.result.now is none) c.at-in_default.ensures
 
 pub returns-then-not-has_count : goal.returns-then-not-has_count
 returns-then-not-has_count t c =
     let is = c.in-List.is ∙ ap variant.List (sym c.as_slice-parts.ensures) in
-    let shaped = sym (c.in-Some.ensures ∙ ap (form_of c.args.version c.args.sort) c.first_word.ensures) in
+    let shaped = sym (c.in-Some.ensures ∙ ap (form_of c.args.version c.args.sort) c.first_word.ensures.word) in
     misfit_here c.args.version c.args.sort c.args.tree.now c.args.place c.at-then-not-has_count.result (omega arith)
     (uncounted_list c.args.version c.args.sort c.args.tree.now c.as_slice-parts.result.now (seen_form c.in-Some.form) is shaped
     (λ some. false≢true (c.if-not-has_count.ensures.1 some))) c.at-then-not-has_count.ensures
@@ -39,7 +39,7 @@ pub returns-in_err-next-in-List : goal.returns-in_err-next-in-List
 returns-in_err-next-in-List t c =
     let p = err_from_is_err_and c.from_residual.result c.from_residual.ensures.1 in
     let is = c.in-List.is ∙ ap variant.List (sym c.as_slice-parts.ensures) in
-    let shaped = sym (c.in-Some.ensures ∙ ap (form_of c.args.version c.args.sort) c.first_word.ensures) in
+    let shaped = sym (c.in-Some.ensures ∙ ap (form_of c.args.version c.args.sort) c.first_word.ensures.word) in
     let formed = formed_of c.args.version c.args.sort c.as_slice-parts.result.now (seen_form c.in-Some.form) shaped (c.if-not-has_count.ensures.0 refl) in
     let here = part_here c.as_slice-parts.result.now c.loop-part.at c.part-item.result (omega arith)
     (c.part-item.is ∙ ap (λ i. get_or c.as_slice-parts.result.now i c.part-item.result) (sym c.loop-part.invariant.0)) in
@@ -49,7 +49,7 @@ returns-in_err-next-in-List t c =
 pub loop-part-preserved : goal.loop-part-preserved
 loop-part-preserved t c =
     let is = c.in-List.is ∙ ap variant.List (sym c.as_slice-parts.ensures) in
-    let shaped = sym (c.in-Some.ensures ∙ ap (form_of c.args.version c.args.sort) c.first_word.ensures) in
+    let shaped = sym (c.in-Some.ensures ∙ ap (form_of c.args.version c.args.sort) c.first_word.ensures.word) in
     let formed = formed_of c.args.version c.args.sort c.as_slice-parts.result.now (seen_form c.in-Some.form) shaped (c.if-not-has_count.ensures.0 refl) in
     let here = part_here c.as_slice-parts.result.now c.loop-part.at c.part-item.result (omega arith)
     (c.part-item.is ∙ ap (λ i. get_or c.as_slice-parts.result.now i c.part-item.result) (sym c.loop-part.invariant.0)) in
@@ -64,6 +64,6 @@ returns-else-fits_token t c =
 pub returns-after-loop-part : goal.returns-after-loop-part
 returns-after-loop-part t c =
     let is = c.in-List.is ∙ ap variant.List (sym c.as_slice-parts.ensures) in
-    let shaped = sym (c.in-Some.ensures ∙ ap (form_of c.args.version c.args.sort) c.first_word.ensures) in
+    let shaped = sym (c.in-Some.ensures ∙ ap (form_of c.args.version c.args.sort) c.first_word.ensures.word) in
     let formed = formed_of c.args.version c.args.sort c.as_slice-parts.result.now (seen_form c.in-Some.form) shaped (c.if-not-has_count.ensures.0 refl) in
     end _ _ _ _ _ is formed _ _ _ c.loop-part.invariant.1 (omega arith)
