@@ -16,7 +16,7 @@ use Rattle.kat_syntax.specs.MeaningByParts.{LetByParts, IfByParts}
 use Rattle.kat_eval.specs.declared.running.StmEnd.{StmEnd}
 use Rattle.kat_eval.specs.declared.running.StmEnd.TheVariants.{Done as DoneEnd, Out as OutEnd, Fail as FailEnd}
 use Rattle.kat_eval.specs.declared.running.Site.TheVariants.{Here as HereEnd, There as ThereEnd}
-use Rattle.kat_eval.specs.Running.{outcome_of, IsBelow}
+use Rattle.kat_eval.specs.Running.{as_outcome, IsBelow}
 use Rattle.std.proofs.Common.{List}
 
 -- the layer of a form
@@ -32,7 +32,7 @@ IsNotDone (DoneEnd value) = ⊥
 IsNotDone _ = Unit {0}
 
 then_do_not_done : (end : StmEnd) (p : Progress) (at : ℕ) (go : Value → Progress → Outcome) → IsNotDone end →
-    then_do (inside at (outcome_of end p)) go ≡ inside at (outcome_of end p)
+    then_do (inside at (as_outcome end p)) go ≡ inside at (as_outcome end p)
 then_do_not_done (DoneEnd value) p at go not_done = absurd not_done
 then_do_not_done OutEnd p at go not_done = refl
 then_do_not_done (FailEnd (HereEnd tree)) p at go not_done = refl
@@ -42,9 +42,9 @@ module _ (names : List Name) (calls : Calls) (s : Stm) (locals : Locals) (p : Pr
   -- a `let` whose first part is done
   pub let_done : LetByParts → (x : Name) (first second : Stm) (a b : Stm) (value : Value) (inner : Locals) (q r : Progress) (end result : StmEnd) →
       s ≡ LetStm x first second → a ≡ first → b ≡ second →
-      meaning names calls a locals p ≡ Done value q → inner ≡ (x, value) ∷ locals → meaning names calls b inner q ≡ outcome_of end r →
-      outcome_of result r ≡ inside (3 + trees_of_stm a) (outcome_of end r) →
-      meaning names calls s locals p ≡ outcome_of result r
+      meaning names calls a locals p ≡ Done value q → inner ≡ (x, value) ∷ locals → meaning names calls b inner q ≡ as_outcome end r →
+      as_outcome result r ≡ inside (3 + trees_of_stm a) (as_outcome end r) →
+      meaning names calls s locals p ≡ as_outcome result r
   let_done law x first second a b value inner q r end result is a_is b_is done inner_is then_ moved =
       ap (λ t. meaning names calls t locals p) is ∙ law names calls x first second locals p
       ∙ ap (λ m. then_do (inside 3 (meaning names calls m locals p)) (λ v next. inside (3 + trees_of_stm m) (meaning names calls second ((x, v) ∷ locals) next))) (sym a_is)
@@ -56,9 +56,9 @@ module _ (names : List Name) (calls : Calls) (s : Stm) (locals : Locals) (p : Pr
   -- a `let` whose first part is not done
   pub let_not_done : LetByParts → (x : Name) (first second : Stm) (a : Stm) (q : Progress) (end result : StmEnd) →
       s ≡ LetStm x first second → a ≡ first →
-      meaning names calls a locals p ≡ outcome_of end q → IsNotDone end →
-      outcome_of result q ≡ inside 3 (outcome_of end q) →
-      meaning names calls s locals p ≡ outcome_of result q
+      meaning names calls a locals p ≡ as_outcome end q → IsNotDone end →
+      as_outcome result q ≡ inside 3 (as_outcome end q) →
+      meaning names calls s locals p ≡ as_outcome result q
   let_not_done law x first second a q end result is a_is ended not_done moved =
       ap (λ t. meaning names calls t locals p) is ∙ law names calls x first second locals p
       ∙ ap (λ m. then_do (inside 3 (meaning names calls m locals p)) (λ v next. inside (3 + trees_of_stm first) (meaning names calls second ((x, v) ∷ locals) next))) (sym a_is)
@@ -68,8 +68,8 @@ module _ (names : List Name) (calls : Calls) (s : Stm) (locals : Locals) (p : Pr
   -- an `if` whose condition is true
   pub if_true : IfByParts → (test : Expr) (first second : Stm) (a : Stm) (value : Value) (q : Progress) (end result : StmEnd) →
       s ≡ IfStm test first second → a ≡ first → value ≡ value_of_expr test locals → is_true value ≡ true →
-      meaning names calls a locals p ≡ outcome_of end q → outcome_of result q ≡ inside (2 + trees_of_expr test) (outcome_of end q) →
-      meaning names calls s locals p ≡ outcome_of result q
+      meaning names calls a locals p ≡ as_outcome end q → as_outcome result q ≡ inside (2 + trees_of_expr test) (as_outcome end q) →
+      meaning names calls s locals p ≡ as_outcome result q
   if_true law test first second a value q end result is a_is value_is holds ended moved =
       ap (λ t. meaning names calls t locals p) is ∙ law names calls test first second locals p
       ∙ ap (λ b. if b then inside (2 + trees_of_expr test) (meaning names calls first locals p) else inside (2 + trees_of_expr test + trees_of_stm first) (meaning names calls second locals p)) (ap is_true (sym value_is) ∙ holds)
@@ -78,8 +78,8 @@ module _ (names : List Name) (calls : Calls) (s : Stm) (locals : Locals) (p : Pr
   -- an `if` whose condition is not true
   pub if_false : IfByParts → (test : Expr) (first second : Stm) (a b : Stm) (value : Value) (q : Progress) (end result : StmEnd) →
       s ≡ IfStm test first second → a ≡ first → b ≡ second → value ≡ value_of_expr test locals → is_true value ≡ false →
-      meaning names calls b locals p ≡ outcome_of end q → outcome_of result q ≡ inside (2 + trees_of_expr test + trees_of_stm a) (outcome_of end q) →
-      meaning names calls s locals p ≡ outcome_of result q
+      meaning names calls b locals p ≡ as_outcome end q → as_outcome result q ≡ inside (2 + trees_of_expr test + trees_of_stm a) (as_outcome end q) →
+      meaning names calls s locals p ≡ as_outcome result q
   if_false law test first second a b value q end result is a_is b_is value_is fails ended moved =
       ap (λ t. meaning names calls t locals p) is ∙ law names calls test first second locals p
       ∙ ap (λ c. if c then inside (2 + trees_of_expr test) (meaning names calls first locals p) else inside (2 + trees_of_expr test + trees_of_stm first) (meaning names calls second locals p)) (ap is_true (sym value_is) ∙ fails)

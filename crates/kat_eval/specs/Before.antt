@@ -9,4 +9,4 @@ use Rattle.kat_eval.specs.declared.running.Before.TheVariants.{First, Test, Bran
 abbrev pub trees_before : Before → ℕ
 trees_before (First first) = 3 + trees_of_stm first.now
 trees_before (Test test) = 2 + trees_of_expr test.now
-trees_before (Branch test then_) = 2 + trees_of_expr test.now + trees_of_stm then_.now
+trees_before (Branch test first) = 2 + trees_of_expr test.now + trees_of_stm first.now

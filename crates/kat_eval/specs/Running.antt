@@ -12,11 +12,11 @@ abbrev pub progress_of : Running → Progress
 progress_of r = record { state = r.state; left = r.left; stores = r.stores }
 
 -- how a statement ended, as the outcome that the meaning has
-abbrev pub outcome_of : StmEnd → Progress → Outcome
-outcome_of (DoneEnd value) progress = Done value progress
-outcome_of OutEnd progress = Out
-outcome_of (FailEnd (HereEnd tree)) progress = Fail (Here tree)
-outcome_of (FailEnd (ThereEnd place)) progress = Fail (There place)
+abbrev pub as_outcome : StmEnd → Progress → Outcome
+as_outcome (DoneEnd value) progress = Done value progress
+as_outcome OutEnd progress = Out
+as_outcome (FailEnd (HereEnd tree)) progress = Fail (Here tree)
+as_outcome (FailEnd (ThereEnd place)) progress = Fail (There place)
 
 -- a failure of the form itself, moved by at, stays below a bound
 abbrev pub IsBelow : ℕ → ℕ → StmEnd → Type 0

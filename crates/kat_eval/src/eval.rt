@@ -1,4 +1,4 @@
-// The values of expressions.
+//! The values of expressions.
 
 ghost use Rattle.std.specs.Prelude.{◌≡◌, ◌==◌, IfOk, if◌then◌else◌};
 ghost use Rattle.kat_value.specs.declared.value.Value.TheVariants.{Unit, Bits};
@@ -10,20 +10,6 @@ use crate::locals::{Locals, copy_of_name};
 use kat_syntax::Expr;
 use kat_value::{Value, is_literal, operate_on_two};
 use std::alloc::{AllocError, Global};
-
-// A literal, or unit where it is no number of its type.
-fn literal(width: u64, number: u64) -> Value
-    ensures { result ≡ (if is_number width number then Bits width number else Unit) }
-{
-    if is_literal(width, number) {
-        Value::Bits {
-            width: width as u32,
-            number,
-        }
-    } else {
-        Value::Unit
-    }
-}
 
 /// The value of an expression; unit, as in its meaning, for a form that no machine runs yet.
 pub fn eval(alloc: Global, expr: &Expr, locals: &Locals<'_>) -> Result<Value, AllocError>
@@ -42,5 +28,19 @@ pub fn eval(alloc: Global, expr: &Expr, locals: &Locals<'_>) -> Result<Value, Al
             _ => Ok(Value::Unit),
         },
         _ => Ok(Value::Unit),
+    }
+}
+
+/// A literal, or unit where it is no number of its type.
+fn literal(width: u64, number: u64) -> Value
+    ensures { result ≡ (if is_number width number then Bits width number else Unit) }
+{
+    if is_literal(width, number) {
+        Value::Bits {
+            width: width as u32,
+            number,
+        }
+    } else {
+        Value::Unit
     }
 }

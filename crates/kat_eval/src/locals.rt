@@ -1,4 +1,4 @@
-// The names that a statement can use, with their values.
+//! The names that a statement can use, with their values.
 
 ghost use Rattle.std.specs.Prelude.{◌≡◌, [], ◌∷◌, IfOk};
 ghost use Rattle.kat_syntax.specs.Meaning.{value_of_name};

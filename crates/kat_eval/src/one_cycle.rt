@@ -1,10 +1,10 @@
-// One cycle of a machine.
+//! One cycle of a machine.
 
 ghost use Rattle.std.specs.Prelude.{◌≡◌, ◌^◌};
 ghost use Rattle.kat_syntax.specs.Meaning.{inside};
 ghost use Rattle.kat_syntax.specs.Cycle.{cycle_of, elsewhere, as_cycle};
 ghost use Rattle.kat_eval.specs.Cycle.{EndsAs};
-ghost use Rattle.kat_eval.specs.Running.{progress_of, outcome_of, IsBelow};
+ghost use Rattle.kat_eval.specs.Running.{progress_of, as_outcome, IsBelow};
 
 use crate::exec::exec;
 use crate::locals::Locals;
@@ -49,17 +49,18 @@ pub fn cycle(alloc: Global, machine: &Checked, calls: u64, state: State) -> Cycl
         stores: Items::new(alloc),
     };
     let locals = Locals::empty();
-    match exec(step.body, alloc, machine, &locals, &mut running) {
+    match exec(alloc, step.body, machine, &locals, &mut running) {
         Ok(end) => end_of_cycle(end, step.decl, step.body_at, running),
         Err(_) => CycleEnd::Memory,
     }
 }
 
-// The end of a cycle, from that of the step function's body, which is a tree of that function's
+/// The end of a cycle, from that of the step function's body, which is a tree of that function's
 // declaration.
 fn end_of_cycle(end: StmEnd, decl: u32, body_at: u32, running: Running) -> CycleEnd
     requires { IsBelow (2 ^ 32) body_at end }
-    ensures { EndsAs result (as_cycle (elsewhere decl (inside body_at (outcome_of end (progress_of running))))) }
+    ensures { let outcome = as_outcome end (progress_of running) in
+        EndsAs result (as_cycle (elsewhere decl (inside body_at outcome))) }
 {
     match end {
         StmEnd::Done(_) => {

@@ -1,4 +1,4 @@
-// Reading and writing a register by its name.
+//! Reading and writing a register by its name.
 
 ghost use Rattle.std.specs.Prelude.{◌≡◌, IfOk};
 ghost use Rattle.kat_names.specs.Names.{position_of};
@@ -18,7 +18,8 @@ pub fn read_register(
     state: &State,
     register: &Text,
 ) -> Result<Value, AllocError>
-    ensures { IfOk result (λ v. v ≡ read_of (register_names machine.now.decls) register.now state.now) }
+    ensures { let names = register_names machine.now.decls in
+        IfOk result (λ v. v ≡ read_of names register.now state.now) }
 {
     let Some(at) = machine.register(register.as_str()) else {
         return Ok(Value::Unit);
@@ -31,7 +32,8 @@ pub fn read_register(
 
 /// Sets a register, if there is one of this name.
 pub fn write_register(machine: &Checked, state: &mut State, register: &Text, value: Value)
-    ensures { state.new ≡ set_register (position_of (register_names machine.now.decls) register.now) value state.old }
+    ensures { let place = position_of (register_names machine.now.decls) register.now in
+        state.new ≡ set_register place value state.old }
 {
     if let Some(at) = machine.register(register.as_str()) {
         state.set_reg(at, value);

@@ -1,9 +1,9 @@
-// What a running cycle has, and how a statement ends.
+//! What a running cycle has, and how a statement ends.
 
 ghost use Rattle.std.specs.Prelude.{◌≡◌, ◌+◌, ◌<◌, ◌^◌, ℕ};
 ghost use Rattle.kat_syntax.specs.Meaning.{inside};
 ghost use Rattle.kat_syntax.specs.Machine.{Progress};
-ghost use Rattle.kat_eval.specs.Running.{outcome_of, IsBelow};
+ghost use Rattle.kat_eval.specs.Running.{as_outcome, IsBelow};
 ghost use Rattle.kat_eval.specs.Before.{trees_before};
 
 use kat_state::State;
@@ -44,28 +44,14 @@ pub enum Before<'a> {
     /// In an `if`, before its first branch.
     Test(&'a Expr),
     /// In an `if`, before its second branch.
-    Branch { test: &'a Expr, then: &'a Stm },
-}
-
-impl Before<'_> {
-    // How many trees stand before the part, the form itself among them.
-    fn trees(self) -> u32
-        requires { trees_before self < 2 ^ 32 }
-        ensures { result ≡ trees_before self.entry }
-    {
-        match self {
-            Before::First(first) => 3 + count_stm(first),
-            Before::Test(test) => 2 + count_expr(test),
-            Before::Branch { test, then } => 2 + count_expr(test) + count_stm(then),
-        }
-    }
+    Branch(&'a Expr, &'a Stm),
 }
 
 impl StmEnd {
     /// The end of a part, as an end of the form in which it has the tree of this number.
     pub fn inside(self, at: u32) -> StmEnd
         requires { IsBelow (2 ^ 32) at self }
-        ensures outcome { (p : Progress) → outcome_of result p ≡ inside at (outcome_of self p) }
+        ensures outcome { (p : Progress) → as_outcome result p ≡ inside at (as_outcome self p) }
         ensures within { (n : ℕ) → IsBelow n 0 self → IsBelow (at + n) 0 result }
     {
         match self {
@@ -77,12 +63,28 @@ impl StmEnd {
     /// The end of a part that stands behind others, as an end of the form.
     pub fn behind(self, before: Before<'_>) -> StmEnd
         requires { IsBelow (2 ^ 32) (trees_before before) self }
-        ensures outcome { (p : Progress) → outcome_of result p ≡ inside (trees_before before.entry) (outcome_of self p) }
-        ensures within { (n : ℕ) → IsBelow n 0 self → IsBelow (trees_before before.entry + n) 0 result }
+        ensures outcome { (p : Progress) →
+            as_outcome result p ≡ inside (trees_before before.entry) (as_outcome self p) }
+        ensures within { (n : ℕ) → IsBelow n 0 self →
+            IsBelow (trees_before before.entry + n) 0 result }
     {
         match self {
             StmEnd::Fail(Site::Here(tree)) => StmEnd::Fail(Site::Here(before.trees() + tree)),
             end => end,
+        }
+    }
+}
+
+impl Before<'_> {
+    /// How many trees stand before the part, the form itself among them.
+    fn trees(self) -> u32
+        requires { trees_before self < 2 ^ 32 }
+        ensures { result ≡ trees_before self.entry }
+    {
+        match self {
+            Before::First(first) => 3 + count_stm(first),
+            Before::Test(test) => 2 + count_expr(test),
+            Before::Branch(test, first) => 2 + count_expr(test) + count_stm(first),
         }
     }
 }

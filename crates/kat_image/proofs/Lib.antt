@@ -2,4 +2,3 @@ mod Lines
 mod Assignments
 mod Settings
 mod Reading
-mod States

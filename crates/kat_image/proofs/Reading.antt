@@ -1,13 +1,14 @@
 -- The reading of the lines.
-use Rattle.std.proofs.Common.{◌≡◌, ◌≢◌, ℕ, ◌+◌, ◌<◌, ◌≤◌, List, [], ◌∷◌, ◌++◌, length, get_or, set, replicate, Bool, true, false, Option, Some, inl, inr, ⊎_elim, refl, sym, ap, ◌∙◌, subst, arith, append_assoc}
-use Rattle.std.specs.Prelude.{slice_get, IsTrue, IsFalse}
-use Rattle.std.proofs.lemmas.Bool.{cases_eq}
+use Rattle.std.proofs.Common.{◌≡◌, ◌≢◌, ℕ, ◌+◌, ◌^◌, ◌<◌, ◌≤◌, List, [], ◌∷◌, ◌++◌, length, get_or, set, replicate, Bool, true, false, Option, Some, inl, inr, ⊎_elim, refl, sym, ap, ◌∙◌, subst, arith, append_assoc}
+use Rattle.std.specs.Prelude.{slice_get, nat_lt, IsTrue, IsFalse}
+use Rattle.std.proofs.lemmas.Bool.{cases_eq, and_parts}
 use Rattle.std.proofs.lemmas.Grind.{common_steps}
 use Rattle.std.proofs.lemmas.List.{length-set, get_or-replicate, length-replicate}
 use Rattle.std.proofs.lemmas.Option.{slice_get_within, slice_get-get_or, get_or_from_slice_get}
 use Rattle.kat_value.specs.declared.value.Value.{Value}
 use Rattle.kat_value.specs.declared.value.Value.TheVariants.{Bits as BitsValue}
-use Rattle.kat_value.specs.Numbers.{IsNumber}
+use Rattle.kat_value.specs.Operations.{is_number}
+use Rattle.kat_value.specs.Widths.{is_width}
 use Rattle.kat_ast.specs.declared.type_name.TypeName.TheVariants.{Bits}
 use Rattle.kat_ast.specs.Spec.{Spec}
 use Rattle.kat_syntax.specs.Tables.{registers_of}
@@ -57,7 +58,7 @@ module _ (spec : Spec) where
   first_value : (lines : List Line) (image : Image) (at : ℕ) → IsReadTo spec lines image → IsUnset spec lines at → slice_get image.state.registers at ≡ slice_get (start_of spec).registers at
   first_value lines image at read unset = ⊎_elim (λ h. absurd (unset h.0 h.1)) (λ h. h.1) (read.values at)
 
-  sets_it : (lines : List Line) (line : Line) (image : Image) (at n w : ℕ) → IsReadTo spec lines image → Assigns (register_names spec.decls) line at n → IsFree image at w → IsNumber w n → Sets spec line at (BitsValue w n)
+  sets_it : (lines : List Line) (line : Line) (image : Image) (at n w : ℕ) → IsReadTo spec lines image → Assigns (register_names spec.decls) line at n → IsFree image at w → IsTrue (is_number w n) → Sets spec line at (BitsValue w n)
   sets_it lines line image at n w read assigns free fits =
       record {
         width = w;
@@ -68,7 +69,7 @@ module _ (spec : Spec) where
         bits = refl;
       }
 
-  with_one : (lines : List Line) (line : Line) (image : Image) (at n w : ℕ) → IsReadTo spec lines image → Assigns (register_names spec.decls) line at n → IsFree image at w → IsNumber w n → IsReadTo spec (lines ++ line ∷ []) (with_set image at w n)
+  with_one : (lines : List Line) (line : Line) (image : Image) (at n w : ℕ) → IsReadTo spec lines image → Assigns (register_names spec.decls) line at n → IsFree image at w → IsTrue (is_number w n) → IsReadTo spec (lines ++ line ∷ []) (with_set image at w n)
   with_one lines line image at n w read assigns free fits =
       let sets = sets_it lines line image at n w read assigns free fits in
       let in_registers : at < length image.state.registers = slice_get_within image.state.registers at (BitsValue w free.1.0) free.1.1 in
@@ -108,22 +109,23 @@ module _ (spec : Spec) where
   pub refused_form : (lines : List Line) (line : Line) → line ≢ [] → ((at n : ℕ) → Assigns (register_names spec.decls) line at n → ⊥) → MayFollow spec lines line → ⊥
   refused_form lines line some none may = ⊎_elim some (λ h. none h.0 h.2.number h.2.assigns) may
 
-  free_by : (lines : List Line) (image : Image) (at w : ℕ) (b : Bool) → IsReadTo spec lines image → IsUnset spec lines at → slice_get image.is_set at ≡ Some b → slice_get (register_types spec.decls) at ≡ Some (Bits w) → w ≤ 64 → IsFree image at w
-  free_by lines image at w true read unset flag type le = absurd (read.taken at flag unset)
-  free_by lines image at w false read unset flag type le = (flag, (0, first_value lines image at read unset ∙ value_at (registers_of spec.decls) at w le type))
+  free_by : (lines : List Line) (image : Image) (at w : ℕ) (b : Bool) → IsReadTo spec lines image → IsUnset spec lines at → slice_get image.is_set at ≡ Some b → slice_get (register_types spec.decls) at ≡ Some (Bits w) → is_width w ≡ true → IsFree image at w
+  free_by lines image at w true read unset flag type wide = absurd (read.taken at flag unset)
+  free_by lines image at w false read unset flag type wide = (flag, (0, first_value lines image at read unset ∙ value_at (registers_of spec.decls) at w wide type))
 
-  pub refused_set : (lines : List Line) (line : Line) (image : Image) (at n : ℕ) → IsReadTo spec lines image → Assigns (register_names spec.decls) line at n → ((w : ℕ) → IsFree image at w → IsNumber w n → ⊥) → MayFollow spec lines line → ⊥
+  pub refused_set : (lines : List Line) (line : Line) (image : Image) (at n : ℕ) → IsReadTo spec lines image → Assigns (register_names spec.decls) line at n → ((w : ℕ) → IsFree image at w → IsTrue (is_number w n) → ⊥) → MayFollow spec lines line → ⊥
   refused_set lines line image at n read assigns none may =
       ⊎_elim (λ empty. empty_words line assigns.name assigns.word empty assigns.words)
       (λ h.
       let sets = h.2 in
       let same = one_assignment (register_names spec.decls) line h.0 sets.number at n sets.assigns assigns in
-      let value : slice_get (start_of spec).registers h.0 ≡ Some (BitsValue sets.width 0) = value_at (registers_of spec.decls) h.0 sets.width sets.fits.width.small sets.type in
+      let wide : is_width sets.width ≡ true = (and_parts (is_width sets.width) (nat_lt sets.number (2 ^ sets.width)) sets.fits).0 in
+      let value : slice_get (start_of spec).registers h.0 ≡ Some (BitsValue sets.width 0) = value_at (registers_of spec.decls) h.0 sets.width wide sets.type in
       let in_registers : h.0 < length (start_of spec).registers = slice_get_within (start_of spec).registers h.0 (BitsValue sets.width 0) value in
       let in_flags : h.0 < length image.is_set = omega (arith, read.flags) in
       let flag = slice_get-get_or image.is_set h.0 false in_flags in
-      let free = free_by lines image h.0 sets.width (get_or image.is_set h.0 false) read h.3 flag sets.type sets.fits.width.small in
-      none sets.width (subst (λ k. IsFree image k sets.width) same.0 free) (subst (IsNumber sets.width) same.1 sets.fits))
+      let free = free_by lines image h.0 sets.width (get_or image.is_set h.0 false) read h.3 flag sets.type wide in
+      none sets.width (subst (λ k. IsFree image k sets.width) same.0 free) (subst (λ k. IsTrue (is_number sets.width k)) same.1 sets.fits))
       may
 
 -- the lines so far, and those of what is left
@@ -166,7 +168,7 @@ reads_fault spec whole rest line more number image r first refused =
     }
 
 -- what setting a register says of the line
-pub takes_set : (spec : Spec) (lines : List Line) (line : Line) (old new : Image) (at n : ℕ) (result : Bool) → IsReadTo spec lines old → Assigns (register_names spec.decls) line at n → (IsTrue result → IsSetTo old at n new) → (IsFalse result → (w : ℕ) → IsFree old at w → IsNumber w n → ⊥) → Takes spec lines line result new
+pub takes_set : (spec : Spec) (lines : List Line) (line : Line) (old new : Image) (at n : ℕ) (result : Bool) → IsReadTo spec lines old → Assigns (register_names spec.decls) line at n → (IsTrue result → IsSetTo old at n new) → (IsFalse result → (w : ℕ) → IsFree old at w → IsTrue (is_number w n) → ⊥) → Takes spec lines line result new
 takes_set spec lines line old new at n true read assigns set_to unset = read_set spec lines line old new at n read assigns (set_to refl)
 takes_set spec lines line old new at n false read assigns set_to unset = refused_set spec lines line old at n read assigns (unset refl)
 

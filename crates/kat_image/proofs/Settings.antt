@@ -1,12 +1,13 @@
 -- What lines set.
-use Rattle.std.proofs.Common.{◌≡◌, ◌≢◌, ℕ, zero, suc, ◌<◌, ◌≤◌, List, [], ◌∷◌, ◌++◌, map, length, take, get_or, set, Bool, true, false, cond, leb, Option, Some, inl, inr, ⊎_elim, refl, sym, ap, ◌∙◌, subst, arith}
+use Rattle.std.proofs.Common.{◌≡◌, ◌≢◌, ℕ, zero, suc, ◌<◌, ◌≤◌, List, [], ◌∷◌, ◌++◌, map, length, take, get_or, set, Bool, true, false, cond, Option, Some, inl, inr, ⊎_elim, refl, sym, ap, ◌∙◌, subst, arith}
 use Rattle.std.specs.Prelude.{slice_get}
-use Rattle.std.proofs.lemmas.Bool.{cases_lt, le-leb}
+use Rattle.std.proofs.lemmas.Bool.{cases_lt}
 use Rattle.std.proofs.lemmas.Grind.{common_steps}
 use Rattle.std.proofs.lemmas.List.{take-append-le, get_or_default, get_or-take, get_or_push}
 use Rattle.std.proofs.lemmas.List.Elements.{Contains-append_left, Contains-push, Contains-push_cases}
 use Rattle.std.proofs.Math.ListN.{get_or-append}
 use Rattle.std.proofs.Math.Seq.{take-append_seam, get_or-append_seam}
+use Rattle.kat_value.specs.Widths.{is_width}
 use Rattle.kat_value.specs.declared.value.Value.{Value}
 use Rattle.kat_value.specs.declared.value.Value.TheVariants.{Bits as BitsValue, Unit as UnitValue}
 use Rattle.kat_ast.specs.declared.type_name.TypeName.{TypeName}
@@ -48,7 +49,7 @@ bits_width false x w n e = cc
 type_from_value : (type : TypeName) (w n : ℕ) → first_value_of type ≡ BitsValue w n → type ≡ Bits w
 type_from_value Unit w n e = cc
 type_from_value BoolName w n e = cc
-type_from_value (Bits x) w n e = ap Bits (bits_width (leb x 64) x w n e)
+type_from_value (Bits x) w n e = ap Bits (bits_width (is_width x) x w n e)
 type_from_value (Named x) w n e = cc
 
 pub type_at : (registers : List RegisterDecl) (at w n : ℕ) → slice_get (map (λ (r : RegisterDecl). first_value_of r.type) registers) at ≡ Some (BitsValue w n) → slice_get (map (λ (r : RegisterDecl). r.type) registers) at ≡ Some (Bits w)
@@ -56,13 +57,13 @@ type_at [] at w n e = cc
 type_at (r ∷ registers) zero w n e = let same : first_value_of r.type ≡ BitsValue w n = cc in ap Some (type_from_value r.type w n same)
 type_at (r ∷ registers) (suc at) w n e = type_at registers at w n e
 
-first_at : (type : TypeName) (w : ℕ) → w ≤ 64 → type ≡ Bits w → first_value_of type ≡ BitsValue w 0
-first_at type w le e = ap first_value_of e ∙ ap (λ b. cond b (BitsValue w 0) UnitValue) (le-leb w 64 le)
+first_at : (type : TypeName) (w : ℕ) → is_width w ≡ true → type ≡ Bits w → first_value_of type ≡ BitsValue w 0
+first_at type w wide e = ap first_value_of e ∙ ap (λ b. cond b (BitsValue w 0) UnitValue) wide
 
-pub value_at : (registers : List RegisterDecl) (at w : ℕ) → w ≤ 64 → slice_get (map (λ (r : RegisterDecl). r.type) registers) at ≡ Some (Bits w) → slice_get (map (λ (r : RegisterDecl). first_value_of r.type) registers) at ≡ Some (BitsValue w 0)
-value_at [] at w le e = cc
-value_at (r ∷ registers) zero w le e = let same : r.type ≡ Bits w = cc in ap Some (first_at r.type w le same)
-value_at (r ∷ registers) (suc at) w le e = value_at registers at w le e
+pub value_at : (registers : List RegisterDecl) (at w : ℕ) → is_width w ≡ true → slice_get (map (λ (r : RegisterDecl). r.type) registers) at ≡ Some (Bits w) → slice_get (map (λ (r : RegisterDecl). first_value_of r.type) registers) at ≡ Some (BitsValue w 0)
+value_at [] at w wide e = cc
+value_at (r ∷ registers) zero w wide e = let same : r.type ≡ Bits w = cc in ap Some (first_at r.type w wide same)
+value_at (r ∷ registers) (suc at) w wide e = value_at registers at w wide e
 
 module _ (spec : Spec) where
   -- one line more

@@ -1,13 +1,13 @@
 -- What an image says: the values that the registers have at the start.
-use Rattle.std.specs.Prelude.{◌≡◌, ◌≢◌, ◌<◌, ◌+◌, ◌==◌, ◌⊎◌, ℕ, List, [], ◌∷◌, ◌++◌, Some, map, length, take, slice_get, slice_index_or}
+use Rattle.std.specs.Prelude.{◌≡◌, ◌≢◌, ◌<◌, ◌+◌, ◌==◌, ◌⊎◌, ℕ, List, [], ◌∷◌, ◌++◌, Some, map, length, take, slice_get, slice_index_or, IsTrue}
 use Rattle.std.specs.List.{All, Contains, slice_split}
 use Rattle.std.specs.Str.{IsUtf8, chars}
 use Rattle.kat_names.specs.Names.{position_of}
 use Rattle.kat_tree.specs.declared.tree.Token.TheVariants.{Number}
-use Rattle.kat_tree.specs.Spelling.{SpellsToken}
+use Rattle.kat_tree.specs.Spelling.{StandsFor}
 use Rattle.kat_value.specs.declared.value.Value.{Value}
 use Rattle.kat_value.specs.declared.value.Value.TheVariants.{Bits as BitsValue}
-use Rattle.kat_value.specs.Numbers.{IsNumber}
+use Rattle.kat_value.specs.Operations.{is_number}
 use Rattle.kat_ast.specs.declared.type_name.TypeName.{TypeName}
 use Rattle.kat_ast.specs.declared.type_name.TypeName.TheVariants.{Bits}
 use Rattle.kat_ast.specs.declared.decl.DeclForm.{DeclForm}
@@ -50,7 +50,7 @@ pub record Assigns (names : List Name) (line : Line) (at number : ℕ) : Type 0 
   pub word : List ℕ
   pub words : AreWords line name word
   pub named : position_of names name ≡ Some at
-  pub spelled : SpellsToken (chars word) (Number number)
+  pub spelled : StandsFor (chars word) (Number number)
 
 -- a line sets the register at this position to this value: the number fits the register's width
 pub record Sets (spec : Spec) (line : Line) (at : ℕ) (value : Value) : Type 0 where
@@ -58,7 +58,7 @@ pub record Sets (spec : Spec) (line : Line) (at : ℕ) (value : Value) : Type 0 
   pub number : ℕ
   pub assigns : Assigns (register_names spec.decls) line at number
   pub type : slice_get (register_types spec.decls) at ≡ Some (Bits width)
-  pub fits : IsNumber width number
+  pub fits : IsTrue (is_number width number)
   pub bits : value ≡ BitsValue width number
 
 -- one of the lines sets the register at this position to this value
@@ -71,11 +71,14 @@ IsUnset spec lines at = (value : Value) → IsSet spec lines at value → ⊥
 
 -- behind these lines may stand one that is empty, or that sets a register that none of them sets
 abbrev pub MayFollow : Spec → List Line → Line → Type 0
-MayFollow spec lines line = (line ≡ []) ⊎ ((at : ℕ) × (value : Value) × Sets spec line at value × IsUnset spec lines at)
+MayFollow spec lines line =
+    (line ≡ []) ⊎ ((at : ℕ) × (value : Value) × Sets spec line at value × IsUnset spec lines at)
 
 -- each line is empty, or sets a register that no line before it sets
 abbrev pub AreSettings : Spec → List Line → Type 0
-AreSettings spec lines = (k : ℕ) (d : Line) → k < length lines → MayFollow spec (take k lines) (slice_index_or lines k d)
+AreSettings spec lines =
+    (k : ℕ) (d : Line) → k < length lines →
+    MayFollow spec (take k lines) (slice_index_or lines k d)
 
 -- a line sets the register at this position to what is its value now, or none does and its value is
 -- the first one

@@ -1,4 +1,3 @@
 pub mod Image
 pub mod ImageError
 pub mod Reader
-pub mod States

@@ -1,7 +1,7 @@
 -- The reading of an image, up to one of its lines.
-use Rattle.std.specs.Prelude.{◌≡◌, ℕ, Bool, true, false, List, [], ◌∷◌, ◌++◌, length, slice_get, slice_set, Option, Some, None}
+use Rattle.std.specs.Prelude.{◌≡◌, ℕ, Bool, true, false, List, [], ◌∷◌, ◌++◌, length, slice_get, slice_set, Option, Some, None, IsTrue}
 use Rattle.kat_value.specs.declared.value.Value.TheVariants.{Bits}
-use Rattle.kat_value.specs.Numbers.{IsNumber}
+use Rattle.kat_value.specs.Operations.{is_number}
 use Rattle.kat_ast.specs.Spec.{Spec}
 use Rattle.kat_syntax.specs.Start.{start_of}
 use Rattle.kat_image.specs.declared.image.Image.{Image}
@@ -19,19 +19,24 @@ pub record IsReadTo (spec : Spec) (lines : List Line) (image : Image) : Type 0 w
 
 -- the register at a position is one of this width that no line has set
 abbrev pub IsFree : Image → ℕ → ℕ → Type 0
-IsFree image at width = (slice_get image.is_set at ≡ Some false) × ((n : ℕ) × (slice_get image.state.registers at ≡ Some (Bits width n)))
+IsFree image at width =
+    (slice_get image.is_set at ≡ Some false)
+    × ((n : ℕ) × (slice_get image.state.registers at ≡ Some (Bits width n)))
 
 -- the image with a register set
 abbrev pub with_set : Image → ℕ → ℕ → ℕ → Image
 with_set image at width number =
+    let registers = slice_set image.state.registers at (Bits width number) in
     record {
-      state = record image.state { registers = slice_set image.state.registers at (Bits width number) };
+      state = record image.state { registers = registers };
       is_set = slice_set image.is_set at true;
     }
 
 -- a register was free, and the number fits it: it is set
 abbrev pub IsSetTo : Image → ℕ → ℕ → Image → Type 0
-IsSetTo old at number new = (width : ℕ) × IsFree old at width × IsNumber width number × (new ≡ with_set old at width number)
+IsSetTo old at number new =
+    (width : ℕ) × IsFree old at width × IsTrue (is_number width number)
+    × (new ≡ with_set old at width number)
 
 -- a line was taken behind those before it, or it may not stand there
 abbrev pub Takes : Spec → List Line → Line → Bool → Image → Type 0

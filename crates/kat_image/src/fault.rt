@@ -1,4 +1,4 @@
-// Why an image was not taken.
+//! Why an image was not taken.
 
 ghost use Rattle.std.specs.Prelude.{◌≡◌};
 ghost use Rattle.kat_image.specs.declared.fault.ImageError.TheVariants.{Memory};

@@ -5,9 +5,9 @@
 
 mod fault;
 mod image;
-mod law;
+mod laws;
 mod line;
 
 pub use fault::ImageError;
 pub use image::read_image;
-pub use law::{images_are_states, lines_are_the_text, no_lines_are_the_start, one_state};
+pub use laws::{lines_are_the_text, no_lines_are_the_start, one_state};

@@ -1,4 +1,4 @@
-// One line of an image.
+//! One line of an image.
 
 ghost use Rattle.std.specs.Prelude.{◌≡◌, ◌<◌, ℕ, List, ◌∷◌, length, Some, IfSome, IsSomeAnd};
 ghost use Rattle.std.specs.Option.{option_copied};
@@ -25,26 +25,29 @@ pub(crate) fn first_line(bytes: &[u8]) -> (&[u8], Option<&[u8]>)
     }
 }
 
-// The name and the word of a line `reg NAME WORD`.
+/// The register that a line names, and the number that it gives it. `None` where the line is not of
+/// that form.
+pub(crate) fn assigned(machine: &Checked, line: &[u8]) -> Option<(u32, u64)>
+    ensures found { let names = register_names machine.now.decls in
+        IfSome result (λ r. Assigns names line.now r.0 r.1) }
+    ensures only { let names = register_names machine.now.decls in
+        (at number : ℕ) → Assigns names line.now at number → result ≡ Some (at, number) }
+{
+    let (name, word) = words(line)?;
+    let at = machine.register(name)?;
+    let number = number_of_word(word)?;
+    Some((at, number))
+}
+
+/// The name and the word of a line `reg NAME WORD`.
 fn words(line: &[u8]) -> Option<(&str, &str)>
     ensures found { IfSome result (λ r. AreWords line.now r.0.now r.1.now) }
-    ensures only { (name word : List ℕ) → AreWords line.now name word → IsSomeAnd result (λ r. (r.0.now ≡ name) × (r.1.now ≡ word)) }
+    ensures only { (name word : List ℕ) → AreWords line.now name word →
+        IsSomeAnd result (λ r. (r.0.now ≡ name) × (r.1.now ≡ word)) }
 {
     let Ok(text) = str::from_utf8(line) else {
         return None;
     };
     let rest = text.strip_prefix("reg ")?;
     rest.split_once(' ')
-}
-
-/// The register that a line names, and the number that it gives it. `None` where the line is not of
-/// that form.
-pub(crate) fn assigned(machine: &Checked, line: &[u8]) -> Option<(u32, u64)>
-    ensures found { IfSome result (λ r. Assigns (register_names machine.now.decls) line.now r.0 r.1) }
-    ensures only { (at number : ℕ) → Assigns (register_names machine.now.decls) line.now at number → result ≡ Some (at, number) }
-{
-    let (name, word) = words(line)?;
-    let at = machine.register(name)?;
-    let number = number_of_word(word)?;
-    Some((at, number))
 }

@@ -19,13 +19,15 @@ use Rattle.kat_syntax.specs.FirstForm.{is_first_op, expr_first, is_first_expr}
 use Rattle.kat_value.specs.Words.{arity_of, is_written}
 use Rattle.kat_ast.specs.Parts.{every}
 use Rattle.kat_ast.specs.Expressions.{expr_formed, is_formed_expr}
-use Rattle.kat_syntax.specs.Typing.{unless, inside, agree, may_be_bits, Scope, local_type, Known, is_width, takes, fixed_behind, args_faults, expr_faults, expr_known, known_of_expr}
-use Rattle.kat_syntax.proofs.TypingLaws.{empty_first, empty_second}
+use Rattle.kat_value.specs.Signatures.{agree, may_be_bits, signature_of, takes}
+use Rattle.kat_value.specs.Widths.{is_width}
+use Rattle.kat_syntax.specs.Typing.{unless, Scope, local_type, Known, args_faults, first_arg_at, expr_faults, expr_known, known_of_expr}
+use Rattle.kat_laws.proofs.Faults.{empty_first, empty_second, holds_unless}
 use Rattle.kat_syntax.specs.Meaning.{Locals, expr_value, value_of_expr}
 use Rattle.kat_laws.specs.Soundness.{IsOfKnown, AreOfScope}
 use Rattle.kat_laws.specs.Safety.{Need, Operands, is_bound, IsMet, RunExpr, expr_needs, run_expr_of, run_expr, ExpressionsRunAsMeant, IsSafeExpr, ExpressionsAreSafe}
-use Rattle.kat_laws.proofs.SoundValues.{holds_unless, clean_inside, numbers_are, agreed, two_numbers, ult_gives, add_gives}
-use Rattle.kat_laws.proofs.SoundExpr.{first_fixes, two_takes_two, expressions_sound}
+use Rattle.kat_laws.proofs.SoundValues.{numbers_are, agreed, two_numbers, ult_gives, add_gives}
+use Rattle.kat_laws.proofs.SoundExpr.{AreTaken, both_taken, two_takes_two, expressions_sound}
 
 -- what two lists need is met where what each needs is
 pub both_met : (first second : List Need) → AllByRecursion IsMet first → AllByRecursion IsMet second → AllByRecursion IsMet (first ++ second)
@@ -56,10 +58,10 @@ literal_fits w n scope locals clean = (
 -- two values of types that agree are of one type
 of_one_type : (s t : Option Ty) (u v : Value) → agree s t ≡ true → IsOfKnown s u → IsOfKnown t v → IsMet (Operands Eq (u ∷ v ∷ []))
 of_one_type None t u v e p q = absurd p
-of_one_type (Some s) t u v e p q = ((Truth (value_eq u v), refl), (s, p.0, (p.1, ((agreed s t v e q).1, tt))))
+of_one_type (Some s) t u v e p q = ((Truth (value_eq u v), refl), (s, (p, (agreed s t v e q, tt))))
 
 -- an operation of the first form takes two values of types that it takes
-two_met : (op : Op) (s t : Option Ty) (u v : Value) → is_first_op op ≡ true → takes op None s ≡ true → takes op s t ≡ true →
+two_met : (op : Op) (s t : Option Ty) (u v : Value) → is_first_op op ≡ true → takes (signature_of op) 0 None s ≡ true → takes (signature_of op) 1 s t ≡ true →
     IsOfKnown s u → IsOfKnown t v → IsMet (Operands op (u ∷ v ∷ []))
 two_met Eq s t u v first a b p q = of_one_type s t u v b p q
 two_met Ult s t u v first a b p q =
@@ -71,25 +73,9 @@ two_met Add s t u v first a b p q =
 two_met _ s t u v first a b p q = absurd (false≢true first)
 
 -- an operation on two arguments without faults takes their values
-operands_met : (op : Op) (a b : Known) (u v : Value) → is_first_op op ≡ true → args_faults op None 2 (a ∷ b ∷ []) ≡ [] →
+operands_met : (op : Op) (a b : Known) (u v : Value) → is_first_op op ≡ true → AreTaken op a b →
     (a.faults ≡ [] → IsOfKnown a.type u) → (b.faults ≡ [] → IsOfKnown b.type v) → IsMet (Operands op (u ∷ v ∷ []))
-operands_met op a b u v first clean p q =
-    let behind_first = empty_second (inside 2 a.faults) _ clean in
-    let taken : takes op None a.type ≡ true = holds_unless (takes op None a.type) 2 6 (empty_first _ _ behind_first) in
-    let second = empty_second (unless (takes op None a.type) 2 6) _ behind_first in
-    let behind_second = empty_second (inside (2 + a.trees) b.faults) _ second in
-    let fixed : fixed_behind op None a.type ≡ a.type = first_fixes op a.type taken in
-    let takes_second : takes op (fixed_behind op None a.type) b.type ≡ true =
-    holds_unless (takes op (fixed_behind op None a.type) b.type) (2 + a.trees) 6 (empty_first _ _ behind_second) in
-    two_met op a.type b.type u v first taken (ap (λ s. takes op s b.type) (sym fixed) ∙ takes_second)
-    (p (clean_inside 2 a.faults (empty_first _ _ clean))) (q (clean_inside (2 + a.trees) b.faults (empty_first _ _ second)))
-
--- and has none in either of them
-args_clean : (op : Op) (a b : Known) → args_faults op None 2 (a ∷ b ∷ []) ≡ [] → (a.faults ≡ []) × (b.faults ≡ [])
-args_clean op a b clean =
-    let behind_first = empty_second (inside 2 a.faults) _ clean in
-    let second = empty_second (unless (takes op None a.type) 2 6) _ behind_first in
-    (clean_inside 2 a.faults (empty_first _ _ clean), clean_inside (2 + a.trees) b.faults (empty_first _ _ second))
+operands_met op a b u v first both p q = two_met op a.type b.type u v first both.taken both.behind (p both.left) (q both.right)
 
 -- the value of an expression as it is run is its value
 abbrev HasValue : Expr → Type 0
@@ -140,7 +126,7 @@ run_sound e scope locals first formed are clean =
 -- an operation is safe, on as many arguments as it takes
 args_safe : (op : Op) (args : List SafePart) (scope : Scope) (locals : Locals) → is_first_op op ≡ true →
     length (map is_formed_expr (parts_of args)) ≡ 2 → every (map is_first_expr (parts_of args)) ≡ true → every (map is_formed_expr (parts_of args)) ≡ true →
-    args_faults op None 2 (map (known_of_expr scope) (parts_of args)) ≡ [] → AreOfScope scope locals →
+    args_faults (signature_of op) 0 None (first_arg_at op) (map (known_of_expr scope) (parts_of args)) ≡ [] → AreOfScope scope locals →
     AllByRecursion IsMet (expr_needs (Apply op (map run_expr (parts_of args))) locals)
 args_safe op [] scope locals first two firsts formed clean are = absurd (omega arith)
 args_safe op (a ∷ []) scope locals first two firsts formed clean are = absurd (omega arith)
@@ -150,11 +136,11 @@ args_safe op (a ∷ b ∷ []) scope locals first two firsts formed clean are =
     let formed_behind = and_parts (is_formed_expr a.0) (is_formed_expr b.0 && true) formed in
     let first_b = (and_parts (is_first_expr b.0) true firsts_behind.1).0 in
     let formed_b = (and_parts (is_formed_expr b.0) true formed_behind.1).0 in
-    let clean_b = args_clean op (known_of_expr scope a.0) (known_of_expr scope b.0) clean in (
-      operands_met op (known_of_expr scope a.0) (known_of_expr scope b.0) ((run_expr a.0).value locals) ((run_expr b.0).value locals) first clean
+    let both = both_taken op (first_arg_at op) (known_of_expr scope a.0) (known_of_expr scope b.0) first clean in (
+      operands_met op (known_of_expr scope a.0) (known_of_expr scope b.0) ((run_expr a.0).value locals) ((run_expr b.0).value locals) first both
           (run_sound a.0 scope locals firsts_behind.0 formed_behind.0 are) (run_sound b.0 scope locals first_b formed_b are),
-      both_met ((run_expr a.0).needs locals) ((run_expr b.0).needs locals ++ []) (a.1 scope locals firsts_behind.0 formed_behind.0 clean_b.0 are)
-          (both_met ((run_expr b.0).needs locals) [] (b.1 scope locals first_b formed_b clean_b.1 are) tt),
+      both_met ((run_expr a.0).needs locals) ((run_expr b.0).needs locals ++ []) (a.1 scope locals firsts_behind.0 formed_behind.0 both.left are)
+          (both_met ((run_expr b.0).needs locals) [] (b.1 scope locals first_b formed_b both.right are) tt),
     )
 
 -- one layer of an expression

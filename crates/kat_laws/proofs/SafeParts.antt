@@ -7,8 +7,7 @@ use Rattle.kat_ast.specs.declared.stm.Stm.TheShapes.{former-Stm-Case-1-at-2 as c
 use Rattle.kat_ast.specs.declared.stm.Stm.TheOpen.{Stm-F, Let, Seq, If, Case, Match}
 use Rattle.kat_ast.specs.declared.stm.Stm.TheFolds.{map-Stm, fold-roll-Stm, ind-Stm}
 use Rattle.kat_syntax.specs.Tables.{Name, RegisterDecl}
-use Rattle.kat_syntax.specs.Meaning.{Calls, Part, part_of}
-use Rattle.kat_syntax.proofs.MeaningLaws.{whole}
+use Rattle.kat_syntax.specs.Meaning.{Calls, Part, part_of, part_of_stm}
 use Rattle.kat_laws.specs.Safety.{RunStm, run_stm_of, run_stm, StatementsRunAsMeant}
 
 module _ (registers : List RegisterDecl) (calls : Calls) where
@@ -17,7 +16,7 @@ module _ (registers : List RegisterDecl) (calls : Calls) where
 
   -- what a statement does
   abbrev part : Stm → Part
-  part = whole names calls
+  part = part_of_stm names calls
 
   -- a statement as it is run
   abbrev run : Stm → RunStm

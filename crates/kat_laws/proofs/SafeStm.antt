@@ -7,6 +7,7 @@ use Rattle.std.proofs.lemmas.Bool.{and_parts, false≢true}
 use Rattle.kat_value.specs.declared.types.Ty.{Ty}
 use Rattle.kat_value.specs.declared.types.Ty.TheVariants.{Bool as bool}
 use Rattle.kat_value.specs.declared.value.Value.{Value}
+use Rattle.kat_value.specs.Signatures.{agree}
 use Rattle.kat_ast.specs.declared.expr.Expr.{Expr}
 use Rattle.kat_ast.specs.declared.stm.Stm.{Stm}
 use Rattle.kat_ast.specs.declared.stm.Stm.TheOpen.{Stm-F, Ret, Let, If, Read, Write, Fail as FailStm}
@@ -19,18 +20,17 @@ use Rattle.kat_syntax.specs.FirstForm.{is_first_expr, stm_first, is_first_stm}
 use Rattle.kat_ast.specs.Parts.{is_name}
 use Rattle.kat_ast.specs.Expressions.{is_formed_expr}
 use Rattle.kat_ast.specs.Statements.{stm_formed, is_formed_stm}
-use Rattle.kat_syntax.specs.Runnable.{IsFirstForm}
-use Rattle.kat_syntax.specs.Typing.{unless, inside as faults_inside, Scope, Known, agree, is_in_scope, register_type, known_of_expr, declared_by, stm_faults, stm_known, known_of_stm}
-use Rattle.kat_syntax.proofs.TypingLaws.{empty_first, empty_second}
+use Rattle.kat_syntax.specs.Runnable.{IsRunnable}
+use Rattle.kat_syntax.specs.Typing.{unless, inside as faults_inside, Scope, Known, is_in_scope, register_type, known_of_expr, declared_by, stm_faults, stm_known, known_of_stm}
+use Rattle.kat_laws.proofs.Faults.{DeclsAreClean, empty_first, empty_second, holds_unless, clean_inside}
 use Rattle.kat_syntax.specs.Machine.{Progress}
-use Rattle.kat_syntax.specs.Meaning.{Locals, Outcome, Done, Out, Fail, is_true, Calls, Part, value_of_expr}
-use Rattle.kat_syntax.proofs.MeaningLaws.{whole}
+use Rattle.kat_syntax.specs.Meaning.{Locals, Outcome, Done, Out, Fail, is_true, Calls, Part, part_of_stm, value_of_expr}
 use Rattle.kat_syntax.specs.Cycle.{register_names}
-use Rattle.kat_laws.specs.TextLaw.{AreOfTypes, IsStateOf}
+use Rattle.kat_laws.specs.States.{AreOfTypes, IsStateOf}
 use Rattle.kat_laws.specs.Soundness.{IsOfKnown, AreOfScope, KeepsTypes}
 use Rattle.kat_laws.specs.Safety.{Need, Test, Held, Written, IsMet, place_of, RunStm, needs_behind, stm_needs, run_stm_of, run_stm, IsSafeStm, StatementsAreSafe}
 use Rattle.kat_laws.proofs.TextValues.{truth_of}
-use Rattle.kat_laws.proofs.SoundValues.{holds_unless, clean_inside, agreed}
+use Rattle.kat_laws.proofs.SoundValues.{agreed}
 use Rattle.kat_laws.proofs.SoundExpr.{expressions_sound}
 use Rattle.kat_laws.proofs.SoundStm.{statements_sound}
 use Rattle.kat_laws.proofs.SoundRegisters.{IsOfBits, registers_are_of_bits, types_of, type_at, value_known}
@@ -66,7 +66,7 @@ written_met registers (Some at) type value b there e h = written_at registers at
 
 -- a value of a type that agrees with that of truths is one
 test_met : (type : Option Ty) (value : Value) → agree (Some bool) type ≡ true → IsOfKnown type value → IsMet (Test value)
-test_met type value e h = truth_of value (agreed bool type value e h).1
+test_met type value e h = truth_of value (agreed bool type value e h)
 
 -- what is needed behind a part that keeps types
 behind_met : (spec : Spec) (type : Option Ty) (outcome : Outcome) (go : Value → Progress → List Need) → KeepsTypes spec type outcome →
@@ -81,14 +81,14 @@ branch_met : (b : Bool) (first second : List Need) → AllByRecursion IsMet firs
 branch_met true first second p q = p
 branch_met false first second p q = q
 
-module _ (spec : Spec) (calls : Calls) (can : IsFirstForm spec) where
+module _ (decls : DeclsAreClean) (spec : Spec) (calls : Calls) (can : IsRunnable spec) where
   -- what is known of a statement
   abbrev known : Stm → Scope → Known
   known = known_of_stm (declared_by spec.decls)
 
   -- what a statement does
   abbrev part : Stm → Part
-  part = whole (register_names spec.decls) calls
+  part = part_of_stm (register_names spec.decls) calls
 
   -- a statement as it is run
   abbrev run : Stm → RunStm
@@ -126,7 +126,7 @@ module _ (spec : Spec) (calls : Calls) (can : IsFirstForm spec) where
       (first.1 scope locals progress both_first.0 both_formed.0 first_clean are state)
       (subst (λ (p : Part). AllByRecursion IsMet (needs_behind (p.does locals progress) go)) (sym (part_of_run (registers_of spec.decls) calls first.0))
       (behind_met spec type ((part first.0).does locals progress) go
-      (statements_sound spec calls first.0 scope locals progress can both_first.0 both_formed.0 first_clean are state)
+      (statements_sound decls spec calls first.0 scope locals progress can both_first.0 both_formed.0 first_clean are state)
       (λ value next h s. second.1 ((x, type) ∷ scope) ((x, value) ∷ locals) next both_first.1 both_formed.1 second_clean ((refl, h), are) s)))
 
   if_safe : (test : Expr) (first second : SafePart) (scope : Scope) (locals : Locals) (progress : Progress) →
@@ -162,7 +162,7 @@ module _ (spec : Spec) (calls : Calls) (can : IsFirstForm spec) where
       (empty_second (faults_inside 3 (known_of_expr scope e).faults) _ behind) in (
         held_met registers progress.state.registers (place_of registers r) state.registers there,
         (
-          written_met registers (place_of registers r) (known_of_expr scope e).type (value_of_expr e locals) (registers_are_of_bits spec can) there same
+          written_met registers (place_of registers r) (known_of_expr scope e).type (value_of_expr e locals) (registers_are_of_bits decls spec can) there same
               (expressions_sound e scope locals first e_formed value_clean are),
           expressions_safe e scope locals first e_formed value_clean are,
         ),
@@ -195,6 +195,6 @@ module _ (spec : Spec) (calls : Calls) (can : IsFirstForm spec) where
   each_safe = ind-Stm IsSafe (λ x y is scope locals progress.
       rolled_safe x scope locals progress (subst (λ z. IsSafeLayer z scope locals progress) is (layer_safe y scope locals progress)))
 
-pub statements_safe : StatementsAreSafe
-statements_safe spec calls s scope locals progress can first formed clean are state =
-    each_safe spec calls can s scope locals progress first formed clean are state
+pub statements_safe : DeclsAreClean → StatementsAreSafe
+statements_safe decls spec calls s scope locals progress can first formed clean are state =
+    each_safe decls spec calls can s scope locals progress first formed clean are state

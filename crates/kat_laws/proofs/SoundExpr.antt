@@ -1,9 +1,9 @@
 -- An expression without faults has a value of its type.
-use Rattle.std.proofs.Common.{◌≡◌, ℕ, ◌+◌, ◌<◌, ◌^◌, Bool, true, false, List, [], ◌∷◌, map, length, Option, Some, None, inl, inr, refl, sym, ap, subst, ◌∙◌, arith, if◌then◌else◌}
+use Rattle.std.proofs.Common.{◌≡◌, ℕ, ◌+◌, ◌<◌, ◌^◌, Bool, true, false, List, [], ◌∷◌, map, length, Option, Some, None, refl, sym, ap, subst, ◌∙◌, arith, if◌then◌else◌}
 use Rattle.std.specs.Prelude.{nat_lt, ◌==◌, ◌&&◌, is_some, unwrap_or}
-use Rattle.std.specs.Option.{option_or, option_flatten}
+use Rattle.std.specs.Option.{option_flatten}
 use Rattle.std.specs.Str.{bytes_eq}
-use Rattle.std.proofs.lemmas.Bool.{cases_Bool, and_parts, eqb-true, ltb-true, false≢true}
+use Rattle.std.proofs.lemmas.Bool.{and_parts, eqb-true, ltb-true, false≢true}
 use Rattle.kat_value.specs.declared.op.Op.{Op}
 use Rattle.kat_value.specs.declared.op.Op.TheVariants.{Eq, Ult, Add}
 use Rattle.kat_value.specs.declared.types.Ty.{Ty}
@@ -20,11 +20,13 @@ use Rattle.kat_syntax.specs.FirstForm.{is_first_op, expr_first, is_first_expr}
 use Rattle.kat_value.specs.Words.{arity_of, is_written}
 use Rattle.kat_ast.specs.Parts.{every}
 use Rattle.kat_ast.specs.Expressions.{expr_formed, is_formed_expr}
-use Rattle.kat_syntax.specs.Typing.{unless, inside, Scope, local_type, Known, is_width, takes, fixed_behind, fixed_by, type_of_op, args_faults, expr_type, expr_faults, expr_known, known_of_expr}
-use Rattle.kat_syntax.proofs.TypingLaws.{empty_first, empty_second}
+use Rattle.kat_value.specs.Signatures.{signature_of, takes, fixed_behind}
+use Rattle.kat_value.specs.Widths.{is_width}
+use Rattle.kat_syntax.specs.Typing.{unless, inside, Scope, local_type, Known, type_of_apply, args_faults, types_of_args, first_arg_at, expr_type, expr_faults, expr_known, known_of_expr}
+use Rattle.kat_laws.proofs.Faults.{empty_first, empty_second, holds_unless, clean_inside}
 use Rattle.kat_syntax.specs.Meaning.{Locals, value_of_name, expr_value, value_of_expr}
 use Rattle.kat_laws.specs.Soundness.{IsOfKnown, AreOfScope, ExpressionsAreSound}
-use Rattle.kat_laws.proofs.SoundValues.{holds_unless, clean_inside, unit_known, number_known, numbers_are, two_sound}
+use Rattle.kat_laws.proofs.SoundValues.{unit_known, number_known, numbers_are, first_fixes, two_sound}
 
 -- the newest local, or those behind it
 here_or_behind : (b : Bool) (type : Option Ty) (value rest : Value) (behind : Option (Option Ty)) → IsOfKnown type value →
@@ -47,38 +49,40 @@ literal_sound : (scope : Scope) (w n : ℕ) → expr_faults scope (Bits w n) ≡
 literal_sound scope w n clean =
     let width : is_width w ≡ true = holds_unless (is_width w) 2 3 (empty_first _ _ clean) in
     let below : n < 2 ^ w = ltb-true n (2 ^ w) (holds_unless (nat_lt n (2 ^ w)) 3 5 (empty_second (unless (is_width w) 2 3) _ clean)) in
+    let number = numbers_are w n width below in
     subst (λ b. IsOfKnown (if b then Some (bits w) else None) (if is_number w n then Number w n else UnitValue)) (sym width)
-    (subst (λ b. IsOfKnown (Some (bits w)) (if b then Number w n else UnitValue)) (sym (numbers_are w n width below)) (number_known w n width below))
+    (subst (λ b. IsOfKnown (Some (bits w)) (if b then Number w n else UnitValue)) (sym number) (number_known w n number))
 
--- the type that the first argument fixes is its own, and stays
-pub first_fixes : (op : Op) (s : Option Ty) → takes op None s ≡ true → fixed_behind op None s ≡ s
-first_fixes op s e = ap (λ b. if b then option_or None s else None) e
+-- two arguments without faults: each may stand where it does, and has none itself
+pub record AreTaken (op : Op) (a b : Known) : Type 0 where
+  pub left : a.faults ≡ []
+  pub right : b.faults ≡ []
+  pub taken : takes (signature_of op) 0 None a.type ≡ true
+  pub behind : takes (signature_of op) 1 a.type b.type ≡ true
 
-pub fixed_stays : (op : Op) (s t : Option Ty) (u : Value) → IsOfKnown s u → fixed_behind op s t ≡ s
-fixed_stays op None t u p = absurd p
-fixed_stays op (Some s) t u p =
-    elim (cases_Bool (takes op (Some s) t)) [
-      | inl e ↦ ap (λ b. if b then Some s else Some s) e
-      | inr e ↦ ap (λ b. if b then Some s else Some s) e
-    ]
+pub both_taken : (op : Op) (at : ℕ) (a b : Known) → is_first_op op ≡ true → args_faults (signature_of op) 0 None at (a ∷ b ∷ []) ≡ [] → AreTaken op a b
+both_taken op at a b first clean =
+    let signature = signature_of op in
+    let behind_first = empty_second (inside at a.faults) _ clean in
+    let taken : takes signature 0 None a.type ≡ true = holds_unless (takes signature 0 None a.type) at 6 (empty_first _ _ behind_first) in
+    let second = empty_second (unless (takes signature 0 None a.type) at 6) _ behind_first in
+    let behind_second = empty_second (inside (at + a.trees) b.faults) _ second in
+    let takes_second : takes signature 1 (fixed_behind signature 0 None a.type) b.type ≡ true =
+    holds_unless (takes signature 1 (fixed_behind signature 0 None a.type) b.type) (at + a.trees) 6 (empty_first _ _ behind_second) in
+    record {
+      left = clean_inside at a.faults (empty_first _ _ clean);
+      right = clean_inside (at + a.trees) b.faults (empty_first _ _ second);
+      taken = taken;
+      behind = ap (λ s. takes signature 1 s b.type) (sym (first_fixes op a.type first taken)) ∙ takes_second;
+    }
 
 -- an operation on two arguments without faults
-apply_two : (op : Op) (a b : Known) (u v : Value) → is_first_op op ≡ true → args_faults op None 2 (a ∷ b ∷ []) ≡ [] →
+apply_two : (op : Op) (at : ℕ) (a b : Known) (u v : Value) → is_first_op op ≡ true → args_faults (signature_of op) 0 None at (a ∷ b ∷ []) ≡ [] →
     (a.faults ≡ [] → IsOfKnown a.type u) → (b.faults ≡ [] → IsOfKnown b.type v) →
-    IsOfKnown (type_of_op op (fixed_by op None (a ∷ b ∷ []))) (unwrap_or (value_of_two op u v) UnitValue)
-apply_two op a b u v first clean p q =
-    let behind_first = empty_second (inside 2 a.faults) _ clean in
-    let taken : takes op None a.type ≡ true = holds_unless (takes op None a.type) 2 6 (empty_first _ _ behind_first) in
-    let second = empty_second (unless (takes op None a.type) 2 6) _ behind_first in
-    let behind_second = empty_second (inside (2 + a.trees) b.faults) _ second in
-    let fixed : fixed_behind op None a.type ≡ a.type = first_fixes op a.type taken in
-    let takes_second : takes op (fixed_behind op None a.type) b.type ≡ true =
-    holds_unless (takes op (fixed_behind op None a.type) b.type) (2 + a.trees) 6 (empty_first _ _ behind_second) in
-    let left : IsOfKnown a.type u = p (clean_inside 2 a.faults (empty_first _ _ clean)) in
-    let right : IsOfKnown b.type v = q (clean_inside (2 + a.trees) b.faults (empty_first _ _ second)) in
-    subst (λ t. IsOfKnown (type_of_op op t) (unwrap_or (value_of_two op u v) UnitValue))
-    (sym (ap (λ s. fixed_behind op s b.type) fixed ∙ fixed_stays op a.type b.type u left))
-    (two_sound op a.type b.type u v first taken (ap (λ s. takes op s b.type) (sym fixed) ∙ takes_second) left right)
+    IsOfKnown (type_of_apply op (a.type ∷ b.type ∷ [])) (unwrap_or (value_of_two op u v) UnitValue)
+apply_two op at a b u v first clean p q =
+    let both = both_taken op at a b first clean in
+    two_sound op a.type b.type u v first both.taken both.behind (p both.left) (q both.right)
 
 -- an expression whose value is of its type
 abbrev IsSound : Expr → Type 0
@@ -101,8 +105,8 @@ two_takes_two _ e = absurd (false≢true e)
 -- an operation, on as many arguments as it takes
 args_sound : (op : Op) (args : List SoundPart) (scope : Scope) (locals : Locals) → is_first_op op ≡ true →
     length (map is_formed_expr (parts_of args)) ≡ 2 → every (map is_first_expr (parts_of args)) ≡ true → every (map is_formed_expr (parts_of args)) ≡ true →
-    args_faults op None 2 (map (known_of_expr scope) (parts_of args)) ≡ [] → AreOfScope scope locals →
-    IsOfKnown (type_of_op op (fixed_by op None (map (known_of_expr scope) (parts_of args))))
+    args_faults (signature_of op) 0 None (first_arg_at op) (map (known_of_expr scope) (parts_of args)) ≡ [] → AreOfScope scope locals →
+    IsOfKnown (type_of_apply op (types_of_args (map (known_of_expr scope) (parts_of args))))
     (unwrap_or (value_of_op op (map (λ arg. arg locals) (map value_of_expr (parts_of args)))) UnitValue)
 args_sound op [] scope locals first two firsts formed clean are = absurd (omega arith)
 args_sound op (a ∷ []) scope locals first two firsts formed clean are = absurd (omega arith)
@@ -110,7 +114,7 @@ args_sound op (a ∷ b ∷ c ∷ more) scope locals first two firsts formed clea
 args_sound op (a ∷ b ∷ []) scope locals first two firsts formed clean are =
     let firsts_behind = and_parts (is_first_expr a.0) (is_first_expr b.0 && true) firsts in
     let formed_behind = and_parts (is_formed_expr a.0) (is_formed_expr b.0 && true) formed in
-    apply_two op (known_of_expr scope a.0) (known_of_expr scope b.0) (value_of_expr a.0 locals) (value_of_expr b.0 locals) first clean
+    apply_two op (first_arg_at op) (known_of_expr scope a.0) (known_of_expr scope b.0) (value_of_expr a.0 locals) (value_of_expr b.0 locals) first clean
     (λ none. a.1 scope locals firsts_behind.0 formed_behind.0 none are)
     (λ none. b.1 scope locals (and_parts (is_first_expr b.0) true firsts_behind.1).0 (and_parts (is_formed_expr b.0) true formed_behind.1).0 none are)
 

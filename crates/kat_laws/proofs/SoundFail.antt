@@ -11,8 +11,8 @@ use Rattle.kat_ast.specs.Expressions.{trees_of_expr}
 use Rattle.kat_ast.specs.Statements.{trees_of_stm}
 use Rattle.kat_syntax.specs.FirstForm.{is_first_expr, stm_first, is_first_stm}
 use Rattle.kat_syntax.specs.Machine.{Progress}
-use Rattle.kat_syntax.specs.Meaning.{Locals, Here, There, Outcome, Done, Out, Fail, then_do, inside, is_true, Calls, Part, part_of, meaning, value_of_expr}
-use Rattle.kat_syntax.proofs.MeaningLaws.{whole, trees_of_part}
+use Rattle.kat_syntax.specs.Meaning.{Locals, Here, There, Outcome, Done, Out, Fail, then_do, inside, is_true, Calls, Part, part_of, part_of_stm, meaning, value_of_expr}
+use Rattle.kat_syntax.specs.MeaningByParts.{PartsAreCounted}
 
 -- a failure stands at a tree of a form that has n trees
 abbrev pub FailsBelow : ℕ → Outcome → Type 0
@@ -40,7 +40,7 @@ branch_below n false first second p q = q
 
 module _ (names : List Name) (calls : Calls) where
   abbrev part : Stm → Part
-  part = whole names calls
+  part = part_of_stm names calls
 
   -- a statement that fails at its trees alone
   abbrev IsBelow : Stm → Type 0
@@ -81,6 +81,6 @@ module _ (names : List Name) (calls : Calls) where
       subst (λ (p : Part). FailsBelow p.trees (p.does locals progress)) (sym (fold-roll-Stm Part (part_of names calls) x))
       (subst (λ z. IsLayerBelow z locals progress) is (layer_below y locals progress) (sym (fold-roll-Stm Bool stm_first x) ∙ first)))
 
-  pub fails_below : (s : Stm) (locals : Locals) (progress : Progress) → is_first_stm s ≡ true → FailsBelow (trees_of_stm s) (meaning names calls s locals progress)
-  fails_below s locals progress first =
-      subst (λ n. FailsBelow n (meaning names calls s locals progress)) (trees_of_part names calls s) (parts_below s locals progress first)
+  pub fails_below : PartsAreCounted → (s : Stm) (locals : Locals) (progress : Progress) → is_first_stm s ≡ true → FailsBelow (trees_of_stm s) (meaning names calls s locals progress)
+  fails_below counts s locals progress first =
+      subst (λ n. FailsBelow n (meaning names calls s locals progress)) (counts names calls s) (parts_below s locals progress first)

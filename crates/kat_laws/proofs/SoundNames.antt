@@ -7,7 +7,11 @@ use Rattle.std.proofs.lemmas.List.Elements.{All-nil, All-cons, All-append, All-f
 use Rattle.std.proofs.lemmas.Str.{inside_one}
 use Rattle.unicode_ident.proofs.IdentLemmas.{is_xid_start-ascii, is_xid_continue-ascii}
 use Rattle.unicode_ident.specs.Ident.{is_xid_start, is_xid_continue}
+use Rattle.kat_tree.specs.declared.tree.Token.{Token}
 use Rattle.kat_tree.specs.declared.tree.Token.TheVariants.{Name as NameToken}
+use Rattle.kat_tree.specs.declared.tree.Tree.{Tree}
+use Rattle.kat_tree.specs.declared.tree.Tree.TheVariants as tree
+use Rattle.kat_ast.specs.Spec.{Spec}
 use Rattle.kat_tree.specs.Character.{begins_word}
 use Rattle.kat_tree.specs.Lexeme.{joined}
 use Rattle.kat_tree.specs.Spelling.{IsWord as IsTreeWord}
@@ -21,10 +25,9 @@ use Rattle.kat_ast.specs.Parts.{word}
 use Rattle.kat_ast.specs.Types.{tree_of_type}
 use Rattle.kat_ast.specs.Declarations.{word_of_register_kind, tree_of_decl, IsDecl}
 use Rattle.kat_syntax.specs.Cycle.{register_names}
-use Rattle.kat_syntax.proofs.TypingLaws.{registers_differ}
+use Rattle.kat_syntax.specs.Runnable.{IsTyped, HasDistinctRegisters}
 use Rattle.kat_laws.specs.TextLaw.{IsWord}
 use Rattle.kat_laws.specs.Soundness.{RegistersAreNamed}
-use Rattle.kat_ast.proofs.Writable.{tokens_of-Atom, tokens_of-List}
 
 -- a space continues no word, and begins none
 no_space_inside : (c : ℕ) → IsTrue (is_xid_continue c) → c ≢ 32
@@ -51,21 +54,27 @@ bytes_of_word (c ∷ cs) h = All-append (λ byte. byte ≢ 32) (encode_utf8 c) (
 pub name_is_word : (name : Name) → IsNameToken name → IsWord name
 name_is_word name h = subst IsWord (sym h.bytes_are) (bytes_of_word h.word h.is_word)
 
+-- the tokens of a tree are those of its parts, as kat_tree has it
+pub record TokensByParts : Type 0 where
+  pub atom : (token : Token) → tokens_of (tree.Atom token) ≡ token ∷ []
+  pub list : (parts : List Tree) → tokens_of (tree.List parts) ≡ joined (map tokens_of parts)
+
 -- the name of a register is that of a token
-register_token : (x : Name) (type : TypeName) (kind : RegisterKind) → IsDecl (Register x type kind) → IsNameToken x
-register_token x type kind is =
+register_token : TokensByParts → (x : Name) (type : TypeName) (kind : RegisterKind) → IsDecl (Register x type kind) → IsNameToken x
+register_token tokens x type kind is =
     let rest = joined (map tokens_of (tree_of_type type ∷ word (word_of_register_kind kind) ∷ [])) in
     let all : tokens_of (tree_of_decl (Register x type kind)) ≡ NameToken (codes "register") ∷ NameToken x ∷ rest =
-    tokens_of-List (word (codes "register") ∷ word x ∷ tree_of_type type ∷ word (word_of_register_kind kind) ∷ [])
-    ∙ ap (λ ts. ts ++ (tokens_of (word x) ++ rest)) (tokens_of-Atom (NameToken (codes "register")))
-    ∙ ap (λ ts. NameToken (codes "register") ∷ (ts ++ rest)) (tokens_of-Atom (NameToken x)) in
+    tokens.list (word (codes "register") ∷ word x ∷ tree_of_type type ∷ word (word_of_register_kind kind) ∷ [])
+    ∙ ap (λ ts. ts ++ (tokens_of (word x) ++ rest)) (tokens.atom (NameToken (codes "register")))
+    ∙ ap (λ ts. NameToken (codes "register") ∷ (ts ++ rest)) (tokens.atom (NameToken x)) in
     (subst (AllByRecursion IsToken) all is.tokens).1.0
 
-words_of : (decls : List DeclForm) → AllByRecursion IsDecl decls → All IsWord (register_names decls)
-words_of [] are = All-nil IsWord
-words_of (Register x type kind ∷ decls) are =
-    All-cons IsWord x (register_names decls) (name_is_word x (register_token x type kind are.0)) (words_of decls are.1)
-words_of (_ ∷ decls) are = words_of decls are.1
+words_of : TokensByParts → (decls : List DeclForm) → AllByRecursion IsDecl decls → All IsWord (register_names decls)
+words_of tokens [] are = All-nil IsWord
+words_of tokens (Register x type kind ∷ decls) are =
+    All-cons IsWord x (register_names decls) (name_is_word x (register_token tokens x type kind are.0)) (words_of tokens decls are.1)
+words_of tokens (_ ∷ decls) are = words_of tokens decls are.1
 
-pub registers_named : RegistersAreNamed
-registers_named spec can = record { words = words_of spec.decls can.written; distinct = registers_differ spec can.first.typed }
+pub registers_named : TokensByParts → ((spec : Spec) → IsTyped spec → HasDistinctRegisters spec) → RegistersAreNamed
+registers_named tokens distinct spec can =
+    record { words = words_of tokens spec.decls can.written; distinct = (distinct spec can.runnable.typed).differ }

@@ -1,6 +1,6 @@
 -- The registers of a specification that can be run, and the states of its machine.
 use Rattle.std.proofs.Common.{◌≡◌, ℕ, zero, suc, ◌+◌, true, List, [], ◌∷◌, map, Option, Some, None, refl, sym, ap, subst, ◌∙◌, if◌then◌else◌}
-use Rattle.std.specs.Prelude.{nat_le, is_some, unwrap_or, option_and_then, slice_get, slice_set}
+use Rattle.std.specs.Prelude.{is_some, unwrap_or, option_and_then, slice_get, slice_set}
 use Rattle.std.specs.List.{AllByRecursion}
 use Rattle.std.specs.Option.{option_flatten}
 use Rattle.std.proofs.lemmas.Bool.{and_parts, false≢true}
@@ -18,15 +18,17 @@ use Rattle.kat_ast.specs.declared.decl.DeclForm.TheVariants.{Register}
 use Rattle.kat_ast.specs.Spec.{Spec}
 use Rattle.kat_syntax.specs.Tables.{Name, RegisterDecl, registers_of}
 use Rattle.kat_syntax.specs.FirstForm.{is_first_decl, are_first_decls}
-use Rattle.kat_syntax.specs.Runnable.{IsFirstForm}
-use Rattle.kat_syntax.specs.Typing.{agree, is_width, type_of_name, faults_of_name, in_decl, decl_faults, inner_faults}
-use Rattle.kat_syntax.proofs.TypingLaws.{empty_first, empty_second, held, no_inner_faults}
+use Rattle.kat_syntax.specs.Runnable.{IsRunnable}
+use Rattle.kat_syntax.specs.Typing.{type_of_name, faults_of_name, in_decl, decl_faults, inner_faults}
+use Rattle.kat_value.specs.Signatures.{agree}
+use Rattle.kat_value.specs.Widths.{is_width}
+use Rattle.kat_laws.proofs.Faults.{DeclsAreClean, empty_first, empty_second, holds_unless, clean_decl}
 use Rattle.kat_syntax.specs.Machine.{MachineState}
 use Rattle.kat_syntax.specs.Meaning.{set_register}
 use Rattle.kat_syntax.specs.Start.{first_value_of, start_of}
-use Rattle.kat_laws.specs.TextLaw.{IsOfType, AreOfTypes, IsStateOf}
-use Rattle.kat_laws.specs.Soundness.{IsOfKnown}
-use Rattle.kat_laws.proofs.SoundValues.{agreed, number_has_type}
+use Rattle.kat_laws.specs.States.{IsOfType, AreOfTypes, IsStateOf}
+use Rattle.kat_laws.specs.Soundness.{IsOfKnown, StartsAreStates}
+use Rattle.kat_laws.proofs.SoundValues.{agreed, number_has_type, numbers_are}
 
 -- a register of a machine that can be run is one of bits, with a width
 pub record IsOfBits (register : RegisterDecl) : Type 0 where
@@ -46,15 +48,16 @@ bits_from all k (Register x type kind ∷ decls) first clean =
       record {
         bits_wide = found.0;
         is_bits = found.1;
-        is_wide = held k 5 3 (is_width found.0) (ap (λ t. in_decl k (faults_of_name 3 t)) (sym found.1) ∙ empty_first (in_decl k (faults_of_name 3 type)) _ clean);
+        is_wide = holds_unless (is_width found.0) 5 3
+            (clean_decl k (faults_of_name 3 (BitsName found.0)) (ap (λ t. in_decl k (faults_of_name 3 t)) (sym found.1) ∙ empty_first (in_decl k (faults_of_name 3 type)) _ clean));
       },
       bits_from all (k + 1) decls parts.1 (empty_second (in_decl k (faults_of_name 3 type)) _ clean),
     )
 bits_from all k (decl ∷ decls) first clean =
     bits_from all (k + 1) decls (and_parts (is_first_decl decl) (are_first_decls decls) first).1 (empty_second (in_decl k (decl_faults all decl)) _ clean)
 
-pub registers_are_of_bits : (spec : Spec) → IsFirstForm spec → AllByRecursion IsOfBits (registers_of spec.decls)
-registers_are_of_bits spec first = bits_from spec.decls 0 spec.decls first.forms (no_inner_faults spec first.typed)
+pub registers_are_of_bits : DeclsAreClean → (spec : Spec) → IsRunnable spec → AllByRecursion IsOfBits (registers_of spec.decls)
+registers_are_of_bits decls spec can = bits_from spec.decls 0 spec.decls can.forms (decls spec can.typed).clean
 
 -- the types of registers, as typing knows them
 abbrev pub types_of : List RegisterDecl → List (Option Ty)
@@ -65,13 +68,13 @@ known_type type w is wide = ap type_of_name is ∙ ap (λ b. if b then Some (bit
 
 known_value : (register : RegisterDecl) (value : Value) → IsOfBits register → IsOfType register.type value → IsOfKnown (type_of_name register.type) value
 known_value register value b h =
-    subst (λ t. IsOfKnown t value) (sym (known_type register.type b.bits_wide b.is_bits b.is_wide)) (b.is_wide, subst (λ t. IsOfType t value) b.is_bits h)
+    subst (λ t. IsOfKnown t value) (sym (known_type register.type b.bits_wide b.is_bits b.is_wide)) (subst (λ t. IsOfType t value) b.is_bits h)
 
 pub value_known : (register : RegisterDecl) (type : Option Ty) (value : Value) → IsOfBits register → agree (type_of_name register.type) type ≡ true →
     IsOfKnown type value → IsOfType register.type value
 value_known register type value b e h =
     subst (λ t. IsOfType t value) (sym b.is_bits)
-    (agreed (bits b.bits_wide) type value (ap (λ t. agree t type) (sym (known_type register.type b.bits_wide b.is_bits b.is_wide)) ∙ e) h).1
+    (agreed (bits b.bits_wide) type value (ap (λ t. agree t type) (sym (known_type register.type b.bits_wide b.is_bits b.is_wide)) ∙ e) h)
 
 -- the value at a position is of its register's type
 value_at : (registers : List RegisterDecl) (values : List Value) (at : ℕ) → AllByRecursion IsOfBits registers → AreOfTypes registers values →
@@ -110,13 +113,13 @@ state_written spec state (Some at) type value b are there e h =
 -- the first value of a register is of its type
 first_of : (w : ℕ) → is_width w ≡ true → IsOfType (BitsName w) (first_value_of (BitsName w))
 first_of w wide =
-    subst (λ b. IsOfType (BitsName w) (if b then Number w 0 else UnitValue)) (sym (and_parts (nat_le 1 w) (nat_le w 64) wide).1)
-    (number_has_type w 0 (pow_pos w))
+    subst (λ b. IsOfType (BitsName w) (if b then Number w 0 else UnitValue)) (sym wide)
+    (number_has_type w 0 (numbers_are w 0 wide (pow_pos w)))
 
 firsts_of : (registers : List RegisterDecl) → AllByRecursion IsOfBits registers → AreOfTypes registers (map (λ (register : RegisterDecl). first_value_of register.type) registers)
 firsts_of [] b = tt
 firsts_of (register ∷ registers) b =
     (subst (λ t. IsOfType t (first_value_of t)) (sym b.0.is_bits) (first_of b.0.bits_wide b.0.is_wide), firsts_of registers b.1)
 
-pub start_is_state : (spec : Spec) → IsFirstForm spec → IsStateOf spec (start_of spec)
-start_is_state spec first = record { registers = firsts_of (registers_of spec.decls) (registers_are_of_bits spec first); cells = refl }
+pub start_is_state : DeclsAreClean → StartsAreStates
+start_is_state decls spec can = record { registers = firsts_of (registers_of spec.decls) (registers_are_of_bits decls spec can); cells = refl }

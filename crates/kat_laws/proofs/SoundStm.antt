@@ -8,6 +8,7 @@ use Rattle.kat_names.specs.Names.{position_of}
 use Rattle.kat_value.specs.declared.types.Ty.{Ty}
 use Rattle.kat_value.specs.declared.types.Ty.TheVariants.{Bool as bool}
 use Rattle.kat_value.specs.declared.value.Value.{Value}
+use Rattle.kat_value.specs.Signatures.{agree}
 use Rattle.kat_ast.specs.declared.expr.Expr.{Expr}
 use Rattle.kat_ast.specs.declared.stm.Stm.{Stm}
 use Rattle.kat_ast.specs.declared.stm.Stm.TheOpen.{Stm-F, Ret, Let, If, Read, Write, Fail as FailStm}
@@ -20,15 +21,14 @@ use Rattle.kat_syntax.specs.FirstForm.{is_first_expr, stm_first, is_first_stm}
 use Rattle.kat_ast.specs.Parts.{is_name}
 use Rattle.kat_ast.specs.Expressions.{is_formed_expr}
 use Rattle.kat_ast.specs.Statements.{stm_formed, is_formed_stm}
-use Rattle.kat_syntax.specs.Typing.{unless, inside as faults_inside, Scope, Known, agree, joined, is_in_scope, register_type, known_of_expr, declared_by, stm_type, stm_faults, stm_known, known_of_stm}
-use Rattle.kat_syntax.proofs.TypingLaws.{empty_first, empty_second}
+use Rattle.kat_syntax.specs.Typing.{unless, inside as faults_inside, Scope, Known, joined, is_in_scope, register_type, known_of_expr, declared_by, stm_type, stm_faults, stm_known, known_of_stm}
+use Rattle.kat_laws.proofs.Faults.{DeclsAreClean, empty_first, empty_second, holds_unless, clean_inside}
 use Rattle.kat_syntax.specs.Machine.{Progress}
-use Rattle.kat_syntax.specs.Meaning.{Locals, Here, There, Outcome, Done, Out, Fail, then_do, inside, is_true, Calls, Part, does_of, part_of, value_of_expr}
-use Rattle.kat_syntax.proofs.MeaningLaws.{whole}
+use Rattle.kat_syntax.specs.Meaning.{Locals, Here, There, Outcome, Done, Out, Fail, then_do, inside, is_true, Calls, Part, does_of, part_of, part_of_stm, value_of_expr}
 use Rattle.kat_syntax.specs.Cycle.{register_names}
-use Rattle.kat_laws.specs.TextLaw.{IsStateOf}
+use Rattle.kat_laws.specs.States.{IsStateOf}
 use Rattle.kat_laws.specs.Soundness.{IsOfKnown, AreOfScope, KeepsTypes, StatementsAreSound}
-use Rattle.kat_laws.proofs.SoundValues.{holds_unless, clean_inside, unit_known, first_joined, second_joined}
+use Rattle.kat_laws.proofs.SoundValues.{unit_known, first_joined, second_joined}
 use Rattle.kat_laws.proofs.SoundExpr.{expressions_sound}
 use Rattle.kat_laws.proofs.SoundRegisters.{IsOfBits, registers_are_of_bits, value_read, state_written}
 
@@ -71,7 +71,7 @@ module _ (spec : Spec) (calls : Calls) (b : AllByRecursion IsOfBits (registers_o
 
   -- what a statement does
   abbrev part : Stm → Part
-  part = whole (register_names spec.decls) calls
+  part = part_of_stm (register_names spec.decls) calls
 
   -- a statement that keeps types
   abbrev IsSound : Stm → Type 0
@@ -174,6 +174,6 @@ module _ (spec : Spec) (calls : Calls) (b : AllByRecursion IsOfBits (registers_o
   each_sound = ind-Stm IsSound (λ x y is scope locals progress.
       rolled_sound x scope locals progress (subst (λ z. IsSoundLayer z scope locals progress) is (layer_sound y scope locals progress)))
 
-pub statements_sound : StatementsAreSound
-statements_sound spec calls s scope locals progress can first formed clean are state =
-    each_sound spec calls (registers_are_of_bits spec can) s scope locals progress first formed clean are state
+pub statements_sound : DeclsAreClean → StatementsAreSound
+statements_sound decls spec calls s scope locals progress can first formed clean are state =
+    each_sound spec calls (registers_are_of_bits decls spec can) s scope locals progress first formed clean are state

@@ -10,7 +10,8 @@ use Rattle.kat_value.specs.Equality.{value_eq, TestsEquality}
 use Rattle.kat_ast.specs.declared.type_name.TypeName.{TypeName}
 use Rattle.kat_syntax.specs.Tables.{Name, RegisterDecl}
 use Rattle.kat_syntax.specs.StateText.{text_of_value, register_line, all_lines, changed_lines}
-use Rattle.kat_laws.specs.TextLaw.{IsWord, IsOfType, AreOfTypes}
+use Rattle.kat_laws.specs.States.{IsOfType, AreOfTypes}
+use Rattle.kat_laws.specs.TextLaw.{IsWord}
 use Rattle.kat_laws.proofs.TextNumbers.{front_told_by}
 use Rattle.kat_laws.proofs.TextValues.{value_told}
 

@@ -14,7 +14,8 @@ use Rattle.kat_syntax.specs.Machine.{MachineState}
 use Rattle.kat_syntax.specs.Cycle.{register_names}
 use Rattle.kat_syntax.specs.Run.{Run, RunEnd, Ended, OutIn, FailedIn}
 use Rattle.kat_syntax.specs.StateText.{newline, all_lines, changed_lines, boundary_piece, later_pieces, boundary_pieces, end_piece, joined, state_text_of}
-use Rattle.kat_laws.specs.TextLaw.{HasRegisterNames, IsStateOf, IsWithinWords, IsOfMachine, TextTellsRun, BeginningTellsRun}
+use Rattle.kat_laws.specs.States.{IsStateOf}
+use Rattle.kat_laws.specs.TextLaw.{HasRegisterNames, IsWithinWords, IsOfMachine, TextTellsRun, BeginningTellsRun}
 use Rattle.kat_laws.proofs.TextNumbers.{decimal_told}
 use Rattle.kat_laws.proofs.TextLines.{all_told, changed_told}
 

@@ -1,5 +1,6 @@
 -- What the text of a value tells, where its type is known.
 use Rattle.std.proofs.Common.{◌≡◌, ℕ, zero, suc, ◌+◌, ◌*◌, ◌/◌, ◌^◌, ◌<◌, ◌≤◌, Bool, true, false, List, [], ◌++◌, get_or, drop, refl, sym, ap, subst, ◌∙◌, arith}
+use Rattle.std.specs.Prelude.{nat_lt}
 use Rattle.std.proofs.Math.Nat.{pow-le-pow_right}
 use Rattle.std.proofs.lemmas.Bool.{and_parts, eqb-true, ltb-true, false≢true}
 use Rattle.std.proofs.lemmas.Nat.{pow-add}
@@ -9,10 +10,13 @@ use Rattle.kat_value.specs.declared.value.Value.{Value, out-Value, roll-Value, r
 use Rattle.kat_value.specs.declared.value.Value.TheVariants.{Unit as UnitValue, Bool as Truth, Bits as Number, rolls-Unit, rolls-Bool, rolls-Bits}
 use Rattle.kat_value.specs.declared.value.Value.TheOpen.{Value-F, Unit as UnitLayer, Bool as TruthLayer, Bits as NumberLayer}
 use Rattle.kat_value.specs.Typing.{HasType, has_type, layer_has_type}
+use Rattle.kat_value.specs.Operations.{is_number}
+use Rattle.kat_value.specs.Widths.{is_width}
 use Rattle.kat_ast.specs.declared.type_name.TypeName.{TypeName}
 use Rattle.kat_ast.specs.declared.type_name.TypeName.TheVariants.{Unit as UnitName, Bool as BoolName, Bits as BitsName, Named}
-use Rattle.kat_syntax.specs.StateText.{hex_digits, text_of_value}
-use Rattle.kat_laws.specs.TextLaw.{IsOfType}
+use Rattle.kat_text.specs.Hexadecimal.{hex_digits}
+use Rattle.kat_syntax.specs.StateText.{text_of_value}
+use Rattle.kat_laws.specs.States.{IsOfType}
 use Rattle.kat_laws.proofs.TextNumbers.{front_told, length-hex_digits, hex_digits_told}
 
 -- the test of types at one layer
@@ -30,11 +34,11 @@ truth_layer : (layer : Value-F Value) → layer_is layer bool → (b : Bool) × 
 truth_layer (TruthLayer b) h = (b, refl)
 truth_layer _ h = absurd (false≢true h)
 
-number_layer : (w : ℕ) (layer : Value-F Value) → layer_is layer (bits w) → (n : ℕ) × (layer ≡ NumberLayer w n) × (n < 2 ^ w)
+number_layer : (w : ℕ) (layer : Value-F Value) → layer_is layer (bits w) → (n : ℕ) × (layer ≡ NumberLayer w n) × (is_number w n ≡ true)
 number_layer w (NumberLayer u n) h =
     let parts = and_parts _ _ h in
     let width : u ≡ w = eqb-true u w parts.0 in
-    (n, ap (λ k. NumberLayer k n) width, subst (λ k. n < 2 ^ k) width (ltb-true n (2 ^ u) parts.1))
+    (n, ap (λ k. NumberLayer k n) width, subst (λ k. is_number k n ≡ true) width parts.1)
 number_layer w _ h = absurd (false≢true h)
 
 -- the values of each type
@@ -46,10 +50,13 @@ truth_of v h =
     let found = truth_layer (out-Value v) (has_layer bool v h) in
     (found.0, sym (roll-out-Value v) ∙ ap roll-Value found.1 ∙ rolls-Bool found.0)
 
-pub number_of : (w : ℕ) (v : Value) → HasType [] (bits w) v → (n : ℕ) × (v ≡ Number w n) × (n < 2 ^ w)
+pub number_of : (w : ℕ) (v : Value) → HasType [] (bits w) v → (n : ℕ) × (v ≡ Number w n) × (is_number w n ≡ true)
 number_of w v h =
     let found = number_layer w (out-Value v) (has_layer (bits w) v h) in
     (found.0, sym (roll-out-Value v) ∙ ap roll-Value found.1 ∙ rolls-Bits w found.0, found.2)
+
+pub number_below : (w n : ℕ) → is_number w n ≡ true → n < 2 ^ w
+number_below w n number = ltb-true n (2 ^ w) (and_parts (is_width w) (nat_lt n (2 ^ w)) number).1
 
 -- a digit has four bits
 digit_power : (count : ℕ) → 16 ^ count ≡ 2 ^ (4 * count)
@@ -93,6 +100,6 @@ value_told BoolName u v r s p q e =
 value_told (BitsName w) u v r s p q e =
     let a = number_of w u p in
     let b = number_of w v q in
-    let parts = number_told w a.0 b.0 r s a.2 b.2 (sym (ap (λ z. text_of_value z ++ r) a.1) ∙ e ∙ ap (λ z. text_of_value z ++ s) b.1) in
+    let parts = number_told w a.0 b.0 r s (number_below w a.0 a.2) (number_below w b.0 b.2) (sym (ap (λ z. text_of_value z ++ r) a.1) ∙ e ∙ ap (λ z. text_of_value z ++ s) b.1) in
     (a.1 ∙ ap (Number w) parts.0 ∙ sym b.1, parts.1)
 value_told (Named name) u v r s p q e = absurd p

@@ -1,12 +1,14 @@
 //! What holds of every specification that can be run, and that no code needs: typing is sound, a
-//! typed machine meets no ill-typed value, and the text of a run tells the run. A function here
-//! does nothing: its contract is the law.
+//! typed machine meets no ill-typed value, images stand for its states, and the text of a run tells
+//! the run. A function here does nothing: its contract is the law.
 #![tactic(auto)]
 
+mod images;
 mod safety;
 mod soundness;
 mod text;
 
+pub use images::images_are_states;
 pub use safety::{
     cycles_are_safe, expressions_are_safe, runs_are_as_meant, runs_are_safe, statements_are_safe,
 };

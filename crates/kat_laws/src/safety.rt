@@ -1,12 +1,13 @@
-// What a specification that can be run never meets: a value that is not of the type wanted.
+//! What a specification that can be run never meets: a value that is not of the type wanted.
 
 ghost use Rattle.kat_laws.specs.Safety.{ExpressionsRunAsMeant, StatementsRunAsMeant, ExpressionsAreSafe, StatementsAreSafe, CyclesAreSafe, RunsAreSafe};
 
+use crate::soundness::{cycles_are_sound, runs_are_sound};
+use kat_syntax::{places_are_of_the_tree, typed_specifications_have_tables};
+
 /// What is run, where a need is told, is what is meant: the values that an operation is said to
 /// take are those of its parts, and what a `let` is said to go on with is what its first part
-/// leaves. This holds of every expression and every statement, of any form. The function does
-/// nothing: its contract is the law.
-#[tactic(auto, using(crate::proofs::SafeExpr::value_of_run, crate::proofs::SafeParts::statements_run_as_meant))]
+/// leaves. This holds of every expression and every statement, of any form.
 pub fn runs_are_as_meant()
     ensures expressions { ExpressionsRunAsMeant }
     ensures statements { StatementsRunAsMeant }
@@ -15,8 +16,7 @@ pub fn runs_are_as_meant()
 /// An expression without a fault of typing is safe, among locals that are what their scope says:
 /// its meaning falls into none of its catch-alls. Every name has a local, every literal fits its
 /// width, every operation has a value, and `eq` compares two values of one type. This is said of
-/// the expressions that a machine can be run of; a form that no machine runs yet is never safe. The
-/// function does nothing: its contract is the law.
+/// the expressions that a machine can be run of; a form that no machine runs yet is never safe.
 #[tactic(auto, using(crate::proofs::SafeExpr::expressions_safe))]
 pub fn expressions_are_safe()
     ensures { ExpressionsAreSafe }
@@ -26,27 +26,33 @@ pub fn expressions_are_safe()
 /// state of the machine on: its meaning falls into none of its catch-alls. All expressions that it
 /// meets are safe, every test is a truth, every register that is read or written is there and has a
 /// value, and every value that is written is of its register's type. A part that is not come to is
-/// owed nothing. The function does nothing: its contract is the law.
-#[tactic(auto, using(crate::proofs::SafeStm::statements_safe))]
+/// owed nothing.
 pub fn statements_are_safe()
     ensures { StatementsAreSafe }
-{}
+{
+    typed_specifications_have_tables();
+}
 
 /// A cycle of a specification that can be run is safe, from a state of its machine and with any
 /// number of calls: the step declaration names a function that is there and takes nothing, and its
-/// body is safe, with the calls that the cycle leaves it. With no call nothing is run. The function
-/// does nothing: its contract is the law.
-#[tactic(auto, using(crate::proofs::SafeCycle::cycles_safe))]
+/// body is safe, with the calls that the cycle leaves it. With no call nothing is run.
 pub fn cycles_are_safe()
     ensures { CyclesAreSafe }
-{}
+{
+    typed_specifications_have_tables();
+    places_are_of_the_tree();
+    statements_are_safe();
+}
 
 /// A run of a specification that can be run is safe, from a state of its machine, with any number
 /// of calls in a cycle and over any cycles and outside writes: the cycle from the state at every
 /// boundary is safe, and each cycle of the run starts at a boundary. So no run of such a machine
 /// meets a value that is not of the type wanted, a name without a value or a register that is not
-/// there. The function does nothing: its contract is the law.
-#[tactic(auto, using(crate::proofs::SafeCycle::runs_safe))]
+/// there.
 pub fn runs_are_safe()
     ensures { RunsAreSafe }
-{}
+{
+    cycles_are_safe();
+    cycles_are_sound();
+    runs_are_sound();
+}

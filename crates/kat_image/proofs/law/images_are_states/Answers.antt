@@ -1,5 +1,0 @@
-use Rattle.kat_image.proofs.States.{images_are_states}
-use Rattle.kat_image.proofs.law.images_are_states.Goals as goal
-
-pub returns : goal.returns
-returns c = images_are_states c.starts_are_states.ensures
