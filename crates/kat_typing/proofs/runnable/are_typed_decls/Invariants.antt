@@ -1,7 +1,7 @@
 use Rattle.std.proofs.Common.{◌≡◌, drop}
 use Rattle.kat_syntax.specs.Typing.{inner_faults}
 use Rattle.kat_typing.specs.Clean.{is_nil}
-use Rattle.kat_typing.proofs.first_form.are_typed_decls.Given as goal
+use Rattle.kat_typing.proofs.runnable.are_typed_decls.Given as goal
 
 -- the declarations that are left have a fault where all have one
 abbrev pub invariant-loop-decl : goal.invariant-loop-decl
