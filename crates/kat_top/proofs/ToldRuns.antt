@@ -9,7 +9,7 @@ use Rattle.kat_image.specs.States.{ImagesAreStates}
 use Rattle.kat_top.specs.Told.{IsToldRun, TextTellsToldRun, BeginningTellsToldRun}
 
 can_run : (spec : Spec) (run : Run) → IsToldRun spec run → CanRun spec
-can_run spec run told = let machine = told.machine.stands in record { first = machine.1; written = machine.0.described.decls }
+can_run spec run told = record { first = told.machine.first; written = told.machine.reads.described.decls }
 
 few_events : (n : ℕ) → n ≤ 1000000 → length (replicate n Cycle) < 2 ^ 64
 few_events n few = let counted : length (replicate n Cycle) ≡ n = length-replicate n Cycle in omega arith
@@ -19,7 +19,7 @@ setup images spec run told = record {
   calls = told.calls;
   start = told.start;
   events = replicate told.cycles Cycle;
-  is_state = images spec told.state.bytes told.start told.machine.stands.1 told.state.stands;
+  is_state = images spec told.image told.start told.machine.first told.state;
   few = few_events told.cycles told.few;
 }
 

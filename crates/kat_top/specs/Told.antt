@@ -1,22 +1,22 @@
 -- What the printed text of a run tells its reader.
-use Rattle.std.specs.Prelude.{◌≡◌, ◌≤◌, ◌++◌, ℕ, List, Option, replicate}
+use Rattle.std.specs.Prelude.{◌≡◌, ◌≤◌, ◌++◌, ℕ, List, replicate}
 use Rattle.kat_syntax.specs.declared.decl.Spec.{Spec}
 use Rattle.kat_syntax.specs.Machine.{MachineState}
 use Rattle.kat_syntax.specs.Run.{Cycle, Run, run_of}
 use Rattle.kat_syntax.specs.StateText.{state_text_of}
 use Rattle.kat_image.specs.Image.{IsImageOf}
-use Rattle.kat_top.specs.Causes.{StandsFor, IsMachine}
+use Rattle.kat_top.specs.Inputs.{IsMachine}
 
--- a run of a machine that a file tells, from an image that a file tells: of so many cycles, at most as many as words may
+-- a run of a machine that some bytes stand for, from a state that some bytes are an image of: of so many cycles, at most as many as words may
 -- ask for, each with so many calls
 pub record IsToldRun (spec : Spec) (run : Run) : Type 0 where
-  pub text : Option (List ℕ)
-  pub image : Option (List ℕ)
+  pub text : List ℕ
+  pub image : List ℕ
   pub start : MachineState
   pub cycles : ℕ
   pub calls : ℕ
-  pub machine : StandsFor IsMachine text spec
-  pub state : StandsFor (IsImageOf spec) image start
+  pub machine : IsMachine text spec
+  pub state : IsImageOf spec image start
   pub few : cycles ≤ 1000000
   pub run_is : run ≡ run_of spec calls start (replicate cycles Cycle)
 

@@ -1,7 +1,9 @@
-// How the program ends.
+//! How the program ends.
 
 ghost use Rattle.std.specs.Prelude.{◌≡◌};
-ghost use Rattle.kat_top.specs.Statuses.{number_of_status};
+ghost use Rattle.kat_top.specs.Statuses.{number_of_status, status_of_fault};
+
+use crate::fault::Fault;
 
 /// The status with which the program ends, in the order of the numbers, from 0.
 #[derive(Clone, Copy, Debug, PartialEq, Eq)]
@@ -42,5 +44,19 @@ impl Status {
         ensures { result ≡ number_of_status self }
     {
         self as u8
+    }
+
+    /// The status with which the line of a fault is said.
+    pub(crate) fn of_fault(fault: &Fault) -> Status
+        ensures { result ≡ status_of_fault fault.now }
+    {
+        match fault {
+            Fault::Usage => Status::Usage,
+            Fault::Read { .. } => Status::ReadFault,
+            Fault::Long { .. } => Status::TooLong,
+            Fault::Tree { .. } | Fault::Form { .. } | Fault::Unbuilt => Status::Form,
+            Fault::Out(_) => Status::Out,
+            Fault::Failed { .. } => Status::Failed,
+        }
     }
 }
