@@ -1,8 +1,8 @@
 -- A cycle is what the body of the step function does.
 use Rattle.std.proofs.Common.{◌≡◌, ℕ, suc, ◌-◌, ◌<◌, refl, ap, sym, ◌∙◌, arith, List, [], ◌∷◌, Some, Option, unwrap_or}
-use Rattle.kat_syntax.specs.declared.decl.Param.{Param}
-use Rattle.kat_syntax.specs.declared.decl.Spec.{Spec}
-use Rattle.kat_syntax.specs.declared.stm.Stm.{Stm}
+use Rattle.kat_ast.specs.declared.decl.Param.{Param}
+use Rattle.kat_ast.specs.Spec.{Spec}
+use Rattle.kat_ast.specs.declared.stm.Stm.{Stm}
 use Rattle.kat_syntax.specs.Tables.{Function, function_from, step_of}
 use Rattle.kat_syntax.specs.Machine.{MachineState}
 use Rattle.kat_syntax.specs.Meaning.{Locals, Outcome, inside, meaning}

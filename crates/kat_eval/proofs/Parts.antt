@@ -1,14 +1,14 @@
 -- How the parts of a statement make the whole.
 use Rattle.std.proofs.Common.{◌≡◌, ℕ, ◌+◌, ◌≤◌, ◌∷◌, refl, ap, sym, ◌∙◌, arith, true, false, if◌then◌else◌}
 use Rattle.kat_value.specs.declared.value.Value.{Value}
-use Rattle.kat_syntax.specs.declared.expr.Expr.{Expr}
-use Rattle.kat_syntax.specs.declared.stm.Stm.{Stm}
-use Rattle.kat_syntax.specs.declared.stm.Stm.TheOpen.{Let, If}
-use Rattle.kat_syntax.specs.declared.stm.Stm.TheVariants.{Let as LetStm, If as IfStm}
-use Rattle.kat_syntax.specs.declared.stm.Stm.TheViews.{out-Stm, outs-Let, outs-If}
-use Rattle.kat_syntax.specs.declared.stm.Stm.TheFolds.{fold_out-Stm}
+use Rattle.kat_ast.specs.declared.expr.Expr.{Expr}
+use Rattle.kat_ast.specs.declared.stm.Stm.{Stm}
+use Rattle.kat_ast.specs.declared.stm.Stm.TheOpen.{Let, If}
+use Rattle.kat_ast.specs.declared.stm.Stm.TheVariants.{Let as LetStm, If as IfStm}
+use Rattle.kat_ast.specs.declared.stm.Stm.TheViews.{out-Stm, outs-Let, outs-If}
+use Rattle.kat_ast.specs.declared.stm.Stm.TheFolds.{fold_out-Stm}
 use Rattle.kat_syntax.specs.Tables.{Name}
-use Rattle.kat_syntax.specs.Trees.{trees_of_expr, trees_of_stm, stm_trees}
+use Rattle.kat_ast.specs.Trees.{trees_of_expr, trees_of_stm, stm_trees}
 use Rattle.kat_syntax.specs.Machine.{Progress}
 use Rattle.kat_syntax.specs.Meaning.{Locals, Outcome, Done, then_do, inside, is_true, value_of_expr, Calls, meaning}
 use Rattle.kat_syntax.specs.MeaningByParts.{LetByParts, IfByParts}

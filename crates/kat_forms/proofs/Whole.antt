@@ -14,11 +14,11 @@ use Rattle.kat_tree.specs.declared.tree.Tree.TheVariants.{rolls-Atom, rolls-List
 use Rattle.kat_tree.specs.declared.tree.Tree.TheOpen.{Tree-F}
 use Rattle.kat_tree.specs.declared.tree.Tree.TheViews.{roll-Tree, out-Tree, roll-out-Tree}
 use Rattle.kat_tree.specs.declared.tree.Tree.TheFolds.{map-Tree, fold-roll-Tree, ind-Tree}
-use Rattle.kat_syntax.specs.declared.decl.DeclForm.{DeclForm}
-use Rattle.kat_syntax.specs.declared.decl.Spec.{Spec}
-use Rattle.kat_syntax.specs.Written.{number, form, tree_of_decl}
-use Rattle.kat_syntax.specs.WellFormed.{IsDecl}
-use Rattle.kat_syntax.specs.Describes.{tree_of_spec, Describes}
+use Rattle.kat_ast.specs.declared.decl.DeclForm.{DeclForm}
+use Rattle.kat_ast.specs.Spec.{Spec}
+use Rattle.kat_ast.specs.Written.{number, form, tree_of_decl}
+use Rattle.kat_ast.specs.WellFormed.{IsDecl}
+use Rattle.kat_ast.specs.Describes.{tree_of_spec, Describes}
 use Rattle.kat_forms.specs.declared.sort.Sort.TheVariants as sort
 use Rattle.kat_forms.specs.declared.sort.Sort.{Sort}
 use Rattle.kat_forms.specs.Shapes.{many, shape_of, sorts_of}
@@ -31,7 +31,7 @@ use Rattle.kat_forms.proofs.FittingForms.{headed_many, decl_fits}
 use Rattle.std.specs.Prelude.{slice_get, Result, Ok, Err, MatchResult}
 use Rattle.kat_tree.specs.Lexeme.{nesting}
 use Rattle.kat_tree.specs.Written.{IsWritable}
-use Rattle.kat_syntax.specs.Formed.{is_formed_decl}
+use Rattle.kat_ast.specs.Formed.{is_formed_decl}
 use Rattle.kat_forms.specs.declared.error.FormError.{FormError}
 use Rattle.kat_forms.specs.declared.error.FormError.TheVariants.{Wanted, Memory}
 use Rattle.kat_forms.specs.Reading.{IsFirstMisfit, Names, GivesSpec}
@@ -107,10 +107,10 @@ module _ (tree : Tree) (parts : List Tree) (is : tree ≡ variant.List parts) (f
   declarations_fit = rest_fit (sort.Word ∷ sort.Version ∷ []) sort.Declaration (length parts) parts refl listed
 
   -- the specification of these declarations
-  pub spec_made : (decls : List DeclForm) → map tree_of_decl decls ≡ drop 2 parts → AllByRecursion IsDecl decls → Describes tree (record { decls = decls })
+  pub spec_made : (decls : List DeclForm) → map tree_of_decl decls ≡ drop 2 parts → AllByRecursion IsDecl decls → Describes tree (record { version = 1; decls = decls })
   spec_made decls same all =
       let found = many_fit (sort.Word ∷ sort.Version ∷ []) sort.Declaration (length parts) parts refl listed in
-      record { tree_is = from_second tree parts _ begins_spec found.0 found.1 ∙ ap (λ ts. form (codes "spec") (number 1 ∷ ts)) (sym same); decls = all }
+      record { tree_is = from_second tree parts _ begins_spec found.0 found.1 ∙ ap (λ ts. form (codes "spec") (number 1 ∷ ts)) (sym same); kept = record { version = refl; decls = all } }
 
 same_counts : (parts : List ((t : Tree) × ((judged t).count ≡ count_of t))) →
     map (λ (j : Judged). j.count) (map judged (map (λ e. e.0) parts)) ≡ map count_of (map (λ e. e.0) parts)
@@ -152,8 +152,9 @@ decls_fit (d ∷ decls) all = (decl_fits d all.0.formed, decls_fit decls all.1)
 pub described_fits : (tree : Tree) (spec : Spec) → Describes tree spec → Fits sort.Spec tree
 described_fits tree spec d =
     ap (fits sort.Spec) d.tree_is
+    ∙ ap (λ v. fits sort.Spec (form (codes "spec") (number v ∷ map tree_of_decl spec.decls))) d.kept.version
     ∙ headed_many sort.Spec sort.Version sort.Declaration (codes "spec") (number 1) (map tree_of_decl spec.decls) refl
-    (token_fits sort.Version (token.Number 1) refl) (decls_fit spec.decls d.decls)
+    (token_fits sort.Version (token.Number 1) refl) (decls_fit spec.decls d.kept.decls)
 
 all_formed : (decls : List DeclForm) → AllByRecursion IsDecl decls → AllByRecursion (λ (d : DeclForm). is_formed_decl d ≡ true) decls
 all_formed [] all = tt
@@ -166,7 +167,7 @@ OneSpec =
     tree_of_spec a ≡ tree_of_spec b → a ≡ b
 
 pub same_spec : OneSpec → (tree : Tree) (a b : Spec) → Describes tree a → Describes tree b → a ≡ b
-same_spec one tree a b da db = one a b (all_formed a.decls da.decls) (all_formed b.decls db.decls) (sym da.tree_is ∙ db.tree_is)
+same_spec one tree a b da db = one a b (all_formed a.decls da.kept.decls) (all_formed b.decls db.kept.decls) (sym da.tree_is ∙ db.tree_is)
 
 -- what describes a specification is read as it
 pub gives_spec : OneSpec → (tree : Tree) (result : Result Spec FormError) →

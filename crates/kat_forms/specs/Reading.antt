@@ -1,7 +1,7 @@
 -- What the reader of specifications answers.
 use Rattle.std.specs.Prelude.{◌≡◌, false, Result, Ok, Err}
 use Rattle.kat_tree.specs.declared.tree.Tree.{Tree}
-use Rattle.kat_syntax.specs.declared.decl.Spec.{Spec}
+use Rattle.kat_ast.specs.Spec.{Spec}
 use Rattle.kat_forms.specs.declared.sort.Sort.TheVariants as sort
 use Rattle.kat_forms.specs.declared.misfit.Misfit.{Misfit}
 use Rattle.kat_forms.specs.declared.error.FormError.{FormError}

@@ -1,7 +1,7 @@
 -- What is wanted where a tree does not fit what it is read as.
 use Rattle.std.specs.Prelude.{ℕ}
-use Rattle.kat_syntax.specs.declared.wanted.Wanted.{Wanted}
-use Rattle.kat_syntax.specs.declared.wanted.Wanted.TheVariants as wanted
+use Rattle.kat_ast.specs.declared.wanted.Wanted.{Wanted}
+use Rattle.kat_ast.specs.declared.wanted.Wanted.TheVariants as wanted
 use Rattle.kat_forms.specs.declared.misfit.Misfit.{Misfit}
 use Rattle.kat_forms.specs.declared.sort.Sort.{Sort}
 use Rattle.kat_forms.specs.declared.sort.Sort.TheVariants.{Spec, Version, Declaration, TypeName, Name, Number, RegisterPlace, CellsPlace, Statement, Expression, Assertion, Phase}

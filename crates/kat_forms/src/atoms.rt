@@ -1,12 +1,12 @@
 // Names, numbers and types.
 
 ghost use Rattle.std.specs.Prelude.{◌≡◌, true, IfOk};
-ghost use Rattle.kat_syntax.specs.Formed.{is_name, is_formed_type};
-ghost use Rattle.kat_syntax.specs.Written.{word, number, tree_of_type};
+ghost use Rattle.kat_ast.specs.Formed.{is_name, is_formed_type};
+ghost use Rattle.kat_ast.specs.Written.{word, number, tree_of_type};
 ghost use Rattle.kat_forms.specs.Parts.{Fits};
 
 use crate::sort::Sort;
-use kat_syntax::TypeName;
+use kat_ast::TypeName;
 use kat_text::Text;
 use kat_tree::{Token, Tree};
 use std::alloc::{AllocError, Global};

@@ -3,7 +3,7 @@
 ghost use Rattle.std.specs.Prelude.{◌≡◌};
 ghost use Rattle.kat_forms.specs.declared.error.FormError.TheVariants.{Memory};
 
-use kat_syntax::Wanted;
+use kat_ast::Wanted;
 use std::alloc::{AllocError, AllocFailed};
 
 /// Why a tree was not read as a specification.

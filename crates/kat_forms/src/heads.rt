@@ -3,7 +3,7 @@
 ghost use Rattle.std.specs.Prelude.{◌≡◌};
 ghost use Rattle.kat_forms.specs.Heads.{decl_head, stm_head, expr_head, assertion_head};
 
-use kat_syntax::Op;
+use kat_ast::Op;
 
 /// The forms of declarations.
 #[derive(Clone, Copy, Debug, PartialEq, Eq, Drop)]

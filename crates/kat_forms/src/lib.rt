@@ -17,6 +17,7 @@ mod sort;
 mod statements;
 
 pub use error::FormError;
+pub use kat_ast::Wanted;
 pub use law::written_fits;
 pub use misfit::Misfit;
 pub use read::read_spec;

@@ -4,7 +4,7 @@ ghost use Rattle.std.specs.Prelude.{◌≡◌};
 ghost use Rattle.kat_forms.specs.Sorts.{misfit_at};
 
 use crate::sort::Sort;
-use kat_syntax::Wanted;
+use kat_ast::Wanted;
 
 /// The first tree that fits no form.
 #[derive(Clone, Copy, Debug, PartialEq, Eq, Drop)]

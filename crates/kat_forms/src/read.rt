@@ -7,10 +7,10 @@ ghost use Rattle.kat_tree.specs.declared.tree.Tree.TheVariants as variant;
 ghost use Rattle.kat_tree.specs.Lexeme.{nesting};
 ghost use Rattle.kat_tree.specs.Preorder.{count_of};
 ghost use Rattle.kat_tree.specs.Written.{IsWritable};
-ghost use Rattle.kat_syntax.specs.declared.decl.Spec.{Spec};
-ghost use Rattle.kat_syntax.specs.Written.{tree_of_decl};
-ghost use Rattle.kat_syntax.specs.WellFormed.{IsDecl};
-ghost use Rattle.kat_syntax.specs.Describes.{Describes};
+ghost use Rattle.kat_ast.specs.Spec.{Spec};
+ghost use Rattle.kat_ast.specs.Written.{tree_of_decl};
+ghost use Rattle.kat_ast.specs.WellFormed.{IsDecl};
+ghost use Rattle.kat_ast.specs.Describes.{Describes};
 ghost use Rattle.kat_forms.specs.declared.misfit.Misfit.{Misfit};
 ghost use Rattle.kat_forms.specs.Fits.{fits, misfit_of};
 ghost use Rattle.kat_forms.specs.Parts.{Fits, IsPartOfText};
@@ -20,7 +20,7 @@ use crate::declarations::decl_in;
 use crate::error::FormError;
 use crate::fits::check;
 use crate::sort::Sort;
-use kat_syntax::{Decl, Spec, one_form};
+use kat_ast::{Decl, Spec, one_form};
 use kat_tree::{Tree, written_layers};
 use sqlite_items::Items;
 use std::alloc::{AllocError, Global};
@@ -59,9 +59,7 @@ fn spec_in(tree: &Tree, alloc: Global) -> Result<Spec, AllocError>
     let [_, _, trees @ ..] = parts.as_slice() else {
         unreachable!();
     };
-    Ok(Spec {
-        decls: decls_in(trees, alloc)?,
-    })
+    Ok(Spec::new(1, decls_in(trees, alloc)?))
 }
 
 // The specification of a tree, or its first misfit.

@@ -13,7 +13,7 @@ use crate::sort::Sort::{
     MatchArm, Members, Name, Number, Param, Params, Phase, Post, Pre, RegisterPlace, Res,
     Statement, Steps, TypeName, Version, When, Within, Word,
 };
-use kat_syntax::Op;
+use kat_ast::Op;
 
 /// What the parts of a list are read as, its first word among them: first parts, then any number of one sort, then
 /// last parts.

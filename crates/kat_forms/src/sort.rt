@@ -3,7 +3,7 @@
 ghost use Rattle.std.specs.Prelude.{◌≡◌};
 ghost use Rattle.kat_forms.specs.Sorts.{wanted_of};
 
-use kat_syntax::Wanted;
+use kat_ast::Wanted;
 
 /// What a tree is to be read as.
 #[derive(Clone, Copy, Debug, PartialEq, Eq, Drop)]

@@ -8,12 +8,12 @@ use Rattle.kat_value.specs.declared.value.Value.{Value, fold-roll-Value}
 use Rattle.kat_value.specs.declared.value.Value.TheVariants.{Bits as BitsValue, rolls-Bits}
 use Rattle.kat_value.specs.declared.value.Value.TheOpen.{Bits as BitsLayer}
 use Rattle.kat_value.specs.Typing.{HasType, has_type, layer_has_type}
-use Rattle.kat_syntax.specs.declared.decl.TypeName.TheVariants.{Bits}
-use Rattle.kat_syntax.specs.declared.decl.Spec.{Spec}
+use Rattle.kat_ast.specs.declared.decl.TypeName.TheVariants.{Bits}
+use Rattle.kat_ast.specs.Spec.{Spec}
 use Rattle.kat_syntax.specs.Tables.{RegisterDecl, registers_of}
 use Rattle.kat_syntax.specs.Start.{start_of}
-use Rattle.kat_syntax.specs.TextLaw.{IsOfType, AreOfTypes}
-use Rattle.kat_syntax.specs.Soundness.{StartsAreStates}
+use Rattle.kat_laws.specs.TextLaw.{IsOfType, AreOfTypes}
+use Rattle.kat_laws.specs.Soundness.{StartsAreStates}
 use Rattle.kat_image.specs.Image.{Line, HasItsValue, lines_of}
 use Rattle.kat_image.specs.States.{ImagesAreStates}
 

@@ -2,7 +2,7 @@
 use Rattle.std.specs.Prelude.{◌≡◌, ℕ, List, ⊤, Result, Ok, Err}
 use Rattle.kat_image.specs.declared.fault.ImageError.{ImageError}
 use Rattle.kat_image.specs.declared.fault.ImageError.TheVariants.{Line, Memory}
-use Rattle.kat_syntax.specs.declared.decl.Spec.{Spec}
+use Rattle.kat_ast.specs.Spec.{Spec}
 use Rattle.kat_syntax.specs.Machine.{MachineState}
 use Rattle.kat_image.specs.Image.{IsFirstRefused}
 

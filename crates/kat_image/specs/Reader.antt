@@ -2,7 +2,7 @@
 use Rattle.std.specs.Prelude.{◌≡◌, ℕ, Bool, true, false, List, [], ◌∷◌, ◌++◌, length, slice_get, slice_set, Option, Some, None}
 use Rattle.kat_value.specs.declared.value.Value.TheVariants.{Bits}
 use Rattle.kat_value.specs.Numbers.{IsNumber}
-use Rattle.kat_syntax.specs.declared.decl.Spec.{Spec}
+use Rattle.kat_ast.specs.Spec.{Spec}
 use Rattle.kat_syntax.specs.Start.{start_of}
 use Rattle.kat_image.specs.declared.image.Image.{Image}
 use Rattle.kat_image.specs.Image.{Line, IsUnset, MayFollow, AreSettings, HasItsValue, lines_of}

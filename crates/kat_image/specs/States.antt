@@ -1,9 +1,9 @@
 -- What an image stands for, in a machine that can be run.
 use Rattle.std.specs.Prelude.{ℕ, List}
-use Rattle.kat_syntax.specs.declared.decl.Spec.{Spec}
+use Rattle.kat_ast.specs.Spec.{Spec}
 use Rattle.kat_syntax.specs.Runnable.{IsFirstForm}
 use Rattle.kat_syntax.specs.Machine.{MachineState}
-use Rattle.kat_syntax.specs.TextLaw.{IsStateOf}
+use Rattle.kat_laws.specs.TextLaw.{IsStateOf}
 use Rattle.kat_image.specs.Image.{IsImageOf}
 
 -- an image stands for states of the machine alone

@@ -2,13 +2,13 @@
 
 ghost use Rattle.std.specs.Prelude.{◌≡◌, ℕ, List, []};
 ghost use Rattle.std.specs.List.{All, join_with_byte};
-ghost use Rattle.kat_syntax.specs.declared.decl.Spec.{Spec};
+ghost use Rattle.kat_ast.specs.Spec.{Spec};
 ghost use Rattle.kat_syntax.specs.Machine.{MachineState};
 ghost use Rattle.kat_syntax.specs.Start.{start_of};
 ghost use Rattle.kat_image.specs.Image.{IsImageOf, Lacks, lines_of};
 ghost use Rattle.kat_image.specs.States.{ImagesAreStates};
 
-use kat_syntax::starts_are_states;
+use kat_laws::starts_are_states;
 
 /// Bytes are an image of at most one state of a specification.
 pub fn one_state()

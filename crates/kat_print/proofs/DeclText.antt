@@ -5,15 +5,15 @@ use Rattle.std.specs.Fmt.{decimal}
 use Rattle.kat_tree.specs.declared.tree.Tree.{Tree}
 use Rattle.kat_tree.specs.declared.tree.Tree.TheVariants as tree
 use Rattle.kat_tree.specs.Written.{text_of_tree}
-use Rattle.kat_syntax.specs.declared.assertion.Assertion.{Assertion}
-use Rattle.kat_syntax.specs.declared.decl.Phase.{Phase}
-use Rattle.kat_syntax.specs.declared.decl.Phase.TheVariants as p
-use Rattle.kat_syntax.specs.declared.decl.When.{When}
-use Rattle.kat_syntax.specs.declared.decl.DeclForm.{DeclForm}
-use Rattle.kat_syntax.specs.declared.decl.DeclForm.TheVariants as d
-use Rattle.kat_syntax.specs.declared.decl.Spec.{Spec}
-use Rattle.kat_syntax.specs.Written.{word, number, form, tree_of_type, tree_of_params, tree_of_expr, tree_of_stm, tree_of_assertion, tree_of_phase, tree_of_when, word_of_register_kind, word_of_cells_kind, holding, tree_of_decl}
-use Rattle.kat_syntax.specs.Describes.{tree_of_spec}
+use Rattle.kat_ast.specs.declared.assertion.Assertion.{Assertion}
+use Rattle.kat_ast.specs.declared.decl.Phase.{Phase}
+use Rattle.kat_ast.specs.declared.decl.Phase.TheVariants as p
+use Rattle.kat_ast.specs.declared.decl.When.{When}
+use Rattle.kat_ast.specs.declared.decl.DeclForm.{DeclForm}
+use Rattle.kat_ast.specs.declared.decl.DeclForm.TheVariants as d
+use Rattle.kat_ast.specs.Spec.{Spec}
+use Rattle.kat_ast.specs.Written.{word, number, form, tree_of_type, tree_of_params, tree_of_expr, tree_of_stm, tree_of_assertion, tree_of_phase, tree_of_when, word_of_register_kind, word_of_cells_kind, holding, tree_of_decl}
+use Rattle.kat_ast.specs.Describes.{tree_of_spec}
 use Rattle.kat_print.specs.Texts.{bracketed, listed, text_of_type, text_of_params, text_of_expr, text_of_stm, text_of_assertion, text_of_phase, text_of_when, text_holding, text_of_decl, text_of_spec}
 use Rattle.kat_print.proofs.Forms.{of_word, of_number, of_list, of_one, of_two, of_more, of_all, both, three, named, words, numbers}
 use Rattle.kat_print.proofs.ExprText.{of_expr}
@@ -118,4 +118,6 @@ of_decls [] = refl
 of_decls (d ∷ ds) = both (tree_of_decl d) (map tree_of_decl ds) (text_of_decl d) (map text_of_decl ds) (sym (decl_is d)) (of_decls ds)
 
 pub spec_is : (spec : Spec) → text_of_spec spec ≡ text_of_tree (tree_of_spec spec)
-spec_is spec = of_more (codes "spec") (number 1) (map tree_of_decl spec.decls) (decimal 1) (map text_of_decl spec.decls) (of_number 1) (of_decls spec.decls)
+spec_is spec =
+    of_more (codes "spec") (number spec.version) (map tree_of_decl spec.decls) (decimal spec.version) (map text_of_decl spec.decls)
+    (of_number spec.version) (of_decls spec.decls)

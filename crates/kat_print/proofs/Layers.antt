@@ -2,11 +2,11 @@
 use Rattle.std.proofs.Common.{◌≡◌, ℕ, List, [], ◌∷◌, ap, ◌∙◌}
 use Rattle.std.specs.Prelude.{codes}
 use Rattle.std.specs.Fmt.{decimal}
-use Rattle.kat_syntax.specs.declared.expr.Expr.{Expr}
-use Rattle.kat_syntax.specs.declared.expr.Expr.TheOpen.{Expr-F, BeforeCell}
-use Rattle.kat_syntax.specs.declared.expr.Expr.TheVariants as expr
-use Rattle.kat_syntax.specs.declared.expr.Expr.TheViews.{out-Expr, outs-BeforeCell}
-use Rattle.kat_syntax.specs.declared.expr.Expr.TheFolds.{map-Expr, fold_out-Expr}
+use Rattle.kat_ast.specs.declared.expr.Expr.{Expr}
+use Rattle.kat_ast.specs.declared.expr.Expr.TheOpen.{Expr-F, BeforeCell}
+use Rattle.kat_ast.specs.declared.expr.Expr.TheVariants as expr
+use Rattle.kat_ast.specs.declared.expr.Expr.TheViews.{out-Expr, outs-BeforeCell}
+use Rattle.kat_ast.specs.declared.expr.Expr.TheFolds.{map-Expr, fold_out-Expr}
 use Rattle.kat_print.specs.Texts.{listed, expr_text, text_of_expr}
 
 text_at : (e : Expr) (y : Expr-F Expr) → out-Expr e ≡ y → text_of_expr e ≡ expr_text (map-Expr Expr (List ℕ) text_of_expr y)

@@ -1,16 +1,16 @@
 -- The parts of a statement have fewer trees than the statement.
 use Rattle.std.proofs.Common.{◌≡◌, ℕ, ◌+◌, ◌<◌, ◌≤◌, List, [], ◌∷◌, length, get_or, map, sum_by, refl, ap, ◌∙◌, arith}
 use Rattle.std.proofs.lemmas.List.Sums.{sum_by-cons, sum-map, get_or-le-sum_by}
-use Rattle.kat_syntax.specs.declared.expr.Expr.{Expr}
-use Rattle.kat_syntax.specs.declared.stm.Stm.{Stm}
-use Rattle.kat_syntax.specs.declared.stm.CaseArm.{CaseArm}
-use Rattle.kat_syntax.specs.declared.stm.MatchArm.{MatchArm}
-use Rattle.kat_syntax.specs.declared.stm.Stm.TheShapes.{former-Stm-Case-1-at-2 as case_arm, former-Stm-Match-1-at-3 as match_arm}
-use Rattle.kat_syntax.specs.declared.stm.Stm.TheOpen.{Stm-F, Let, Seq, If, Case, Match}
-use Rattle.kat_syntax.specs.declared.stm.Stm.TheVariants as stm
-use Rattle.kat_syntax.specs.declared.stm.Stm.TheViews.{out-Stm, outs-Let, outs-Seq, outs-If, outs-Case, outs-Match}
-use Rattle.kat_syntax.specs.declared.stm.Stm.TheFolds.{map-Stm, fold_out-Stm}
-use Rattle.kat_syntax.specs.Trees.{trees_of_expr, trees_of_case_arm, trees_of_match_arm, stm_trees, trees_of_stm}
+use Rattle.kat_ast.specs.declared.expr.Expr.{Expr}
+use Rattle.kat_ast.specs.declared.stm.Stm.{Stm}
+use Rattle.kat_ast.specs.declared.stm.CaseArm.{CaseArm}
+use Rattle.kat_ast.specs.declared.stm.MatchArm.{MatchArm}
+use Rattle.kat_ast.specs.declared.stm.Stm.TheShapes.{former-Stm-Case-1-at-2 as case_arm, former-Stm-Match-1-at-3 as match_arm}
+use Rattle.kat_ast.specs.declared.stm.Stm.TheOpen.{Stm-F, Let, Seq, If, Case, Match}
+use Rattle.kat_ast.specs.declared.stm.Stm.TheVariants as stm
+use Rattle.kat_ast.specs.declared.stm.Stm.TheViews.{out-Stm, outs-Let, outs-Seq, outs-If, outs-Case, outs-Match}
+use Rattle.kat_ast.specs.declared.stm.Stm.TheFolds.{map-Stm, fold_out-Stm}
+use Rattle.kat_ast.specs.Trees.{trees_of_expr, trees_of_case_arm, trees_of_match_arm, stm_trees, trees_of_stm}
 
 abbrev pub trees_of_stms : List Stm → ℕ
 trees_of_stms parts = sum_by trees_of_stm parts

@@ -4,28 +4,28 @@ use Rattle.std.specs.Fmt.{decimal}
 use Rattle.kat_tree.specs.Written.{behind_spaces, spaced}
 use Rattle.kat_value.specs.declared.op.Op.{Op}
 use Rattle.kat_value.specs.declared.op.Op.TheVariants as op
-use Rattle.kat_syntax.specs.declared.expr.Expr.{Expr}
-use Rattle.kat_syntax.specs.declared.expr.Expr.TheOpen as e
-use Rattle.kat_syntax.specs.declared.expr.Expr.TheFolds.{fold-Expr}
-use Rattle.kat_syntax.specs.declared.stm.Stm.{Stm}
-use Rattle.kat_syntax.specs.declared.stm.CaseArm.{CaseArm}
-use Rattle.kat_syntax.specs.declared.stm.MatchArm.{MatchArm}
-use Rattle.kat_syntax.specs.declared.stm.Stm.TheShapes.{former-Stm-Case-1-at-2 as case_arm, former-Stm-Match-1-at-3 as match_arm}
-use Rattle.kat_syntax.specs.declared.stm.Stm.TheOpen as s
-use Rattle.kat_syntax.specs.declared.stm.Stm.TheFolds.{fold-Stm}
-use Rattle.kat_syntax.specs.declared.assertion.Assertion.{Assertion}
-use Rattle.kat_syntax.specs.declared.assertion.Assertion.TheOpen as a
-use Rattle.kat_syntax.specs.declared.assertion.Assertion.TheFolds.{fold-Assertion}
-use Rattle.kat_syntax.specs.declared.decl.TypeName.{TypeName}
-use Rattle.kat_syntax.specs.declared.decl.TypeName.TheVariants as t
-use Rattle.kat_syntax.specs.declared.decl.Param.{Param}
-use Rattle.kat_syntax.specs.declared.decl.Phase.{Phase}
-use Rattle.kat_syntax.specs.declared.decl.Phase.TheVariants as p
-use Rattle.kat_syntax.specs.declared.decl.When.{When}
-use Rattle.kat_syntax.specs.declared.decl.DeclForm.{DeclForm}
-use Rattle.kat_syntax.specs.declared.decl.DeclForm.TheVariants as d
-use Rattle.kat_syntax.specs.declared.decl.Spec.{Spec}
-use Rattle.kat_syntax.specs.Written.{word_of_op, word_of_register_kind, word_of_cells_kind}
+use Rattle.kat_ast.specs.declared.expr.Expr.{Expr}
+use Rattle.kat_ast.specs.declared.expr.Expr.TheOpen as e
+use Rattle.kat_ast.specs.declared.expr.Expr.TheFolds.{fold-Expr}
+use Rattle.kat_ast.specs.declared.stm.Stm.{Stm}
+use Rattle.kat_ast.specs.declared.stm.CaseArm.{CaseArm}
+use Rattle.kat_ast.specs.declared.stm.MatchArm.{MatchArm}
+use Rattle.kat_ast.specs.declared.stm.Stm.TheShapes.{former-Stm-Case-1-at-2 as case_arm, former-Stm-Match-1-at-3 as match_arm}
+use Rattle.kat_ast.specs.declared.stm.Stm.TheOpen as s
+use Rattle.kat_ast.specs.declared.stm.Stm.TheFolds.{fold-Stm}
+use Rattle.kat_ast.specs.declared.assertion.Assertion.{Assertion}
+use Rattle.kat_ast.specs.declared.assertion.Assertion.TheOpen as a
+use Rattle.kat_ast.specs.declared.assertion.Assertion.TheFolds.{fold-Assertion}
+use Rattle.kat_ast.specs.declared.decl.TypeName.{TypeName}
+use Rattle.kat_ast.specs.declared.decl.TypeName.TheVariants as t
+use Rattle.kat_ast.specs.declared.decl.Param.{Param}
+use Rattle.kat_ast.specs.declared.decl.Phase.{Phase}
+use Rattle.kat_ast.specs.declared.decl.Phase.TheVariants as p
+use Rattle.kat_ast.specs.declared.decl.When.{When}
+use Rattle.kat_ast.specs.declared.decl.DeclForm.{DeclForm}
+use Rattle.kat_ast.specs.declared.decl.DeclForm.TheVariants as d
+use Rattle.kat_ast.specs.Spec.{Spec}
+use Rattle.kat_ast.specs.Written.{word_of_op, word_of_register_kind, word_of_cells_kind}
 
 -- a list of these parts
 abbrev pub bracketed : List (List ℕ) → List ℕ
@@ -187,4 +187,4 @@ text_of_decl (d.Boot x) = listed (codes "boot") (x ∷ [])
 
 -- `(spec 1 D ..)`
 abbrev pub text_of_spec : Spec → List ℕ
-text_of_spec spec = listed (codes "spec") (decimal 1 ∷ map text_of_decl spec.decls)
+text_of_spec spec = listed (codes "spec") (decimal spec.version ∷ map text_of_decl spec.decls)

@@ -6,7 +6,7 @@ ghost use Rattle.kat_print.specs.Texts.{listed, text_of_assertion, text_holding}
 use crate::expressions::{put_named_of, put_named_of_all, put_of, put_of_two, put_part};
 use crate::printed::Printed;
 use crate::types::put_typed;
-use kat_syntax::Assertion;
+use kat_ast::Assertion;
 use std::alloc::AllocError;
 
 /// An assertion.

@@ -3,8 +3,8 @@
 ghost use Rattle.std.specs.Prelude.{◌≡◌, ◌++◌, [], ◌∷◌, map, codes, OnOk};
 ghost use Rattle.std.specs.Fmt.{decimal};
 ghost use Rattle.kat_tree.specs.Written.{behind_spaces};
-ghost use Rattle.kat_syntax.specs.declared.decl.DeclForm.TheVariants as form;
-ghost use Rattle.kat_syntax.specs.Written.{word_of_register_kind, word_of_cells_kind};
+ghost use Rattle.kat_ast.specs.declared.decl.DeclForm.TheVariants as form;
+ghost use Rattle.kat_ast.specs.Written.{word_of_register_kind, word_of_cells_kind};
 ghost use Rattle.kat_print.specs.Texts.{listed, text_of_params, text_of_phase, text_of_when, text_of_expr, text_of_stm, text_holding, text_of_decl, text_of_spec};
 
 use crate::assertions::{put_assertion_part, put_holding, put_holding_part};
@@ -12,7 +12,7 @@ use crate::expressions::{put_named, put_of, put_part};
 use crate::printed::Printed;
 use crate::statements::{put_stm_part, put_stms};
 use crate::types::{put_names, put_params_part, put_type_part};
-use kat_syntax::{
+use kat_ast::{
     Assertion, Block, CellsKind, Decl, DeclForm, Expr, Param, Phase, RegisterKind, Spec, Stm,
     TypeName, When,
 };
@@ -392,7 +392,7 @@ pub fn put_spec(out: &mut Printed, spec: &Spec) -> Result<(), AllocError>
     ensures { OnOk result (out.new ≡ out.old ++ text_of_spec spec.now) }
 {
     out.open("spec")?;
-    out.number_part(1)?;
-    put_decls(out, spec.decls.as_slice())?;
+    out.number_part(spec.version())?;
+    put_decls(out, spec.decls())?;
     out.close()
 }

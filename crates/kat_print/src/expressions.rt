@@ -3,11 +3,11 @@
 ghost use Rattle.std.specs.Prelude.{◌≡◌, ◌++◌, [], ◌∷◌, map, codes, OnOk};
 ghost use Rattle.std.specs.Fmt.{decimal};
 ghost use Rattle.kat_tree.specs.Written.{behind_spaces};
-ghost use Rattle.kat_syntax.specs.Written.{word_of_op};
+ghost use Rattle.kat_ast.specs.Written.{word_of_op};
 ghost use Rattle.kat_print.specs.Texts.{listed, number_texts, text_of_op, text_of_expr};
 
 use crate::printed::Printed;
-use kat_syntax::{Expr, Op};
+use kat_ast::{Expr, Op};
 use kat_text::Text;
 use std::alloc::AllocError;
 

@@ -3,11 +3,11 @@
 ghost use Rattle.std.specs.Prelude.{◌≡◌, ◌++◌, IfOk, OnOk};
 ghost use Rattle.std.specs.String.{string_bytes};
 ghost use Rattle.kat_tree.specs.Written.{text_of_tree};
-ghost use Rattle.kat_syntax.specs.Describes.{tree_of_spec, canonical_text};
+ghost use Rattle.kat_ast.specs.Describes.{tree_of_spec, canonical_text};
 
 use crate::declarations::put_spec;
 use crate::printed::Printed;
-use kat_syntax::Spec;
+use kat_ast::Spec;
 use std::alloc::{AllocError, Global};
 
 // Adds the canonical text of a specification, without the newline at its end.

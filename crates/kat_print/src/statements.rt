@@ -6,7 +6,7 @@ ghost use Rattle.kat_print.specs.Texts.{listed, text_of_expr, text_of_stm, case_
 
 use crate::expressions::{put_named, put_named_of, put_named_of_all, put_of, put_of_two, put_part};
 use crate::printed::Printed;
-use kat_syntax::{CaseArm, Expr, MatchArm, Stm};
+use kat_ast::{CaseArm, Expr, MatchArm, Stm};
 use kat_text::Text;
 use sqlite_items::Items;
 use std::alloc::AllocError;

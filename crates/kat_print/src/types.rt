@@ -5,7 +5,7 @@ ghost use Rattle.kat_tree.specs.Written.{behind_spaces};
 ghost use Rattle.kat_print.specs.Texts.{bracketed, listed, text_of_type, text_of_param, text_of_params};
 
 use crate::printed::Printed;
-use kat_syntax::{Param, TypeName};
+use kat_ast::{Param, TypeName};
 use kat_text::Text;
 use std::alloc::AllocError;
 

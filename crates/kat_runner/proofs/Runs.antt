@@ -5,8 +5,8 @@ use Rattle.std.proofs.Math.Seq.{take-append_seam}
 use Rattle.std.specs.Result.{OnErr}
 use Rattle.kat_io.specs.Contents.{with_bytes, Grew}
 use Rattle.kat_value.specs.declared.value.Value.{Value}
-use Rattle.kat_syntax.specs.declared.place.Place.{Place}
-use Rattle.kat_syntax.specs.declared.decl.Spec.{Spec}
+use Rattle.kat_ast.specs.declared.place.Place.{Place}
+use Rattle.kat_ast.specs.Spec.{Spec}
 use Rattle.kat_syntax.specs.Tables.{Name}
 use Rattle.kat_syntax.specs.Machine.{MachineState, Progress}
 use Rattle.kat_syntax.specs.Cycle.{register_names, CycleOutcome, Completed, OutOfCalls, FailedAt, cycle_of}

@@ -1,7 +1,7 @@
 -- What the runner writes of a run, and what its answer says.
 use Rattle.std.specs.Prelude.{◌≡◌, ℕ, List, Option, replicate}
 use Rattle.kat_io.specs.Contents.{with_bytes, Grew}
-use Rattle.kat_syntax.specs.declared.decl.Spec.{Spec}
+use Rattle.kat_ast.specs.Spec.{Spec}
 use Rattle.kat_syntax.specs.Machine.{MachineState}
 use Rattle.kat_syntax.specs.Run.{Cycle, Run, RunEnd, Ended, OutIn, FailedIn, run_of}
 use Rattle.kat_syntax.specs.StateText.{boundary_text_of, state_text_of}

@@ -35,7 +35,7 @@ impl State {
         ensures { IfOk result (λ s. s ≡ start_of machine.now) }
     {
         let mut registers = Items::new(alloc);
-        for decl in machine.spec().decls.as_slice() {
+        for decl in machine.spec().decls() {
             if let DeclForm::Register { ty, .. } = decl.form() {
                 registers.push(first_value(ty))?;
             }

@@ -2,18 +2,18 @@
 use Rattle.std.proofs.Common.{◌≡◌, ℕ, zero, suc, ◌+◌, ◌<◌, ◌^◌, ◌&&◌, ◌∷◌, refl, sym, ◌∙◌, ap, subst, arith, length, get_or, Bool, List, [], Some, IsSome, true, false}
 use Rattle.std.specs.Prelude.{option_and_then, slice_get}
 use Rattle.std.proofs.lemmas.Option.{slice_get_read}
-use Rattle.kat_syntax.specs.declared.stm.Stm.{Stm}
-use Rattle.kat_syntax.specs.declared.decl.TypeName.{TypeName}
-use Rattle.kat_syntax.specs.declared.decl.TypeName.TheVariants as type
-use Rattle.kat_syntax.specs.declared.decl.Param.{Param}
-use Rattle.kat_syntax.specs.declared.decl.DeclForm.{DeclForm}
-use Rattle.kat_syntax.specs.declared.decl.DeclForm.TheVariants.{Fun}
+use Rattle.kat_ast.specs.declared.stm.Stm.{Stm}
+use Rattle.kat_ast.specs.declared.decl.TypeName.{TypeName}
+use Rattle.kat_ast.specs.declared.decl.TypeName.TheVariants as type
+use Rattle.kat_ast.specs.declared.decl.Param.{Param}
+use Rattle.kat_ast.specs.declared.decl.DeclForm.{DeclForm}
+use Rattle.kat_ast.specs.declared.decl.DeclForm.TheVariants.{Fun}
 use Rattle.kat_syntax.specs.Tables.{Name, function_at}
 use Rattle.kat_syntax.specs.FirstForm.{is_first_stm, is_first_decl, are_first_decls}
-use Rattle.kat_syntax.specs.Trees.{capped, trees_of_type, trees_of_params, trees_of_stm, trees_of_decl}
-use Rattle.kat_syntax.specs.WellFormed.{IsDecl}
+use Rattle.kat_ast.specs.Trees.{capped, trees_of_type, trees_of_params, trees_of_stm, trees_of_decl}
+use Rattle.kat_ast.specs.WellFormed.{IsDecl}
 use Rattle.kat_syntax.specs.Checked.{declared_at}
-use Rattle.kat_syntax.proofs.DeclCount.{decl_counted}
+use Rattle.kat_ast.proofs.DeclCount.{decl_counted}
 
 both_left : (a b : Bool) → (a && b) ≡ true → a ≡ true
 both_left true b h = refl

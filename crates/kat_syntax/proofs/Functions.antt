@@ -3,8 +3,8 @@ use Rattle.std.proofs.Common.{◌≡◌, ℕ, suc, ◌+◌, ◌<◌, ◌∷◌, 
 use Rattle.std.proofs.Math.Seq.{drop-cons}
 use Rattle.std.proofs.lemmas.Option.{slice_get_read}
 use Rattle.std.specs.Prelude.{option_and_then}
-use Rattle.kat_syntax.specs.declared.decl.DeclForm.{DeclForm}
-use Rattle.kat_syntax.specs.declared.decl.DeclForm.TheVariants as d
+use Rattle.kat_ast.specs.declared.decl.DeclForm.{DeclForm}
+use Rattle.kat_ast.specs.declared.decl.DeclForm.TheVariants as d
 use Rattle.kat_syntax.specs.Tables.{Name, function_at, function_from, is_function}
 use Rattle.kat_syntax.specs.Checked.{declared_at}
 

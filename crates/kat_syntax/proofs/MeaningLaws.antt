@@ -1,17 +1,17 @@
 -- The equations of the meaning, form by form.
 use Rattle.std.specs.Prelude.{◌≡◌, ℕ, ◌+◌, if◌then◌else◌, [], ◌∷◌, List, map, sum, sum_by, refl}
 use Rattle.std.proofs.Common.{ap, ◌∙◌, sym, subst, arith}
-use Rattle.kat_syntax.specs.declared.expr.Expr.{Expr}
-use Rattle.kat_syntax.specs.declared.stm.Stm.{Stm}
-use Rattle.kat_syntax.specs.declared.stm.CaseArm.{CaseArm}
-use Rattle.kat_syntax.specs.declared.stm.MatchArm.{MatchArm}
-use Rattle.kat_syntax.specs.declared.stm.Stm.TheShapes.{former-Stm-Case-1-at-2 as case_arm, former-Stm-Match-1-at-3 as match_arm}
-use Rattle.kat_syntax.specs.declared.stm.Stm.TheOpen.{Stm-F, Ret, Let, Seq, If, Case, Match}
-use Rattle.kat_syntax.specs.declared.stm.Stm.TheViews.{out-Stm, outs-Let, outs-If}
-use Rattle.kat_syntax.specs.declared.stm.Stm.TheVariants.{Let as LetStm, If as IfStm}
-use Rattle.kat_syntax.specs.declared.stm.Stm.TheFolds.{map-Stm, fold-Stm, fold-roll-Stm, fold_out-Stm, ind-Stm}
+use Rattle.kat_ast.specs.declared.expr.Expr.{Expr}
+use Rattle.kat_ast.specs.declared.stm.Stm.{Stm}
+use Rattle.kat_ast.specs.declared.stm.CaseArm.{CaseArm}
+use Rattle.kat_ast.specs.declared.stm.MatchArm.{MatchArm}
+use Rattle.kat_ast.specs.declared.stm.Stm.TheShapes.{former-Stm-Case-1-at-2 as case_arm, former-Stm-Match-1-at-3 as match_arm}
+use Rattle.kat_ast.specs.declared.stm.Stm.TheOpen.{Stm-F, Ret, Let, Seq, If, Case, Match}
+use Rattle.kat_ast.specs.declared.stm.Stm.TheViews.{out-Stm, outs-Let, outs-If}
+use Rattle.kat_ast.specs.declared.stm.Stm.TheVariants.{Let as LetStm, If as IfStm}
+use Rattle.kat_ast.specs.declared.stm.Stm.TheFolds.{map-Stm, fold-Stm, fold-roll-Stm, fold_out-Stm, ind-Stm}
 use Rattle.kat_syntax.specs.Tables.{Name}
-use Rattle.kat_syntax.specs.Trees.{trees_of_expr, trees_of_case_arm, trees_of_match_arm, stm_trees, trees_of_stm}
+use Rattle.kat_ast.specs.Trees.{trees_of_expr, trees_of_case_arm, trees_of_match_arm, stm_trees, trees_of_stm}
 use Rattle.kat_syntax.specs.Machine.{Progress}
 use Rattle.kat_syntax.specs.Meaning.{Locals, Outcome, then_do, inside, is_true, value_of_expr, Calls, Part, part_of, meaning}
 use Rattle.kat_syntax.specs.MeaningByParts.{LetByParts, IfByParts}

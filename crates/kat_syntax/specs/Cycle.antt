@@ -2,10 +2,10 @@
 use Rattle.std.specs.Prelude.{ℕ, zero, suc, List, [], ◌∷◌, map, Option, Some, None, unwrap_or}
 use Rattle.kat_value.specs.declared.value.Value.{Value}
 use Rattle.kat_value.specs.declared.value.Value.TheVariants.{Unit as UnitValue}
-use Rattle.kat_syntax.specs.declared.place.Place.{Place}
-use Rattle.kat_syntax.specs.declared.decl.Param.{Param}
-use Rattle.kat_syntax.specs.declared.decl.DeclForm.{DeclForm}
-use Rattle.kat_syntax.specs.declared.decl.Spec.{Spec}
+use Rattle.kat_ast.specs.declared.place.Place.{Place}
+use Rattle.kat_ast.specs.declared.decl.Param.{Param}
+use Rattle.kat_ast.specs.declared.decl.DeclForm.{DeclForm}
+use Rattle.kat_ast.specs.Spec.{Spec}
 use Rattle.kat_syntax.specs.Tables.{Name, RegisterDecl, registers_of, Function, function_from, step_of}
 use Rattle.kat_syntax.specs.Machine.{MachineState, Progress}
 use Rattle.kat_syntax.specs.Meaning.{Locals, Site, Here, There, Outcome, Done, Out, Fail, inside, Calls, meaning}

@@ -2,17 +2,17 @@
 use Rattle.std.specs.Prelude.{Bool, true, false, ◌&&◌, List, [], map}
 use Rattle.kat_value.specs.declared.op.Op.{Op}
 use Rattle.kat_value.specs.declared.op.Op.TheVariants.{Eq, Ult, Add}
-use Rattle.kat_syntax.specs.declared.expr.Expr.{Expr}
-use Rattle.kat_syntax.specs.declared.expr.Expr.TheOpen.{Expr-F, Name, Unit, Bits, Apply}
-use Rattle.kat_syntax.specs.declared.expr.Expr.TheFolds.{fold-Expr}
-use Rattle.kat_syntax.specs.declared.stm.Stm.{Stm}
-use Rattle.kat_syntax.specs.declared.stm.Stm.TheOpen.{Stm-F, Ret, Let, If, Read, Write, Fail}
-use Rattle.kat_syntax.specs.declared.stm.Stm.TheFolds.{fold-Stm}
-use Rattle.kat_syntax.specs.declared.decl.TypeName.TheVariants.{Unit as UnitName, Bits as BitsName}
-use Rattle.kat_syntax.specs.declared.decl.RegisterKind.TheVariants.{Plain}
-use Rattle.kat_syntax.specs.declared.decl.DeclForm.{DeclForm}
-use Rattle.kat_syntax.specs.declared.decl.DeclForm.TheVariants.{Register, Fun, Step}
-use Rattle.kat_syntax.specs.Formed.{every}
+use Rattle.kat_ast.specs.declared.expr.Expr.{Expr}
+use Rattle.kat_ast.specs.declared.expr.Expr.TheOpen.{Expr-F, Name, Unit, Bits, Apply}
+use Rattle.kat_ast.specs.declared.expr.Expr.TheFolds.{fold-Expr}
+use Rattle.kat_ast.specs.declared.stm.Stm.{Stm}
+use Rattle.kat_ast.specs.declared.stm.Stm.TheOpen.{Stm-F, Ret, Let, If, Read, Write, Fail}
+use Rattle.kat_ast.specs.declared.stm.Stm.TheFolds.{fold-Stm}
+use Rattle.kat_ast.specs.declared.decl.TypeName.TheVariants.{Unit as UnitName, Bits as BitsName}
+use Rattle.kat_ast.specs.declared.decl.RegisterKind.TheVariants.{Plain}
+use Rattle.kat_ast.specs.declared.decl.DeclForm.{DeclForm}
+use Rattle.kat_ast.specs.declared.decl.DeclForm.TheVariants.{Register, Fun, Step}
+use Rattle.kat_ast.specs.Formed.{every}
 
 -- `eq`, `ult` and `add`
 abbrev pub is_first_op : Op → Bool

@@ -1,8 +1,3 @@
-pub mod Trees
-pub mod Written
-pub mod Formed
-pub mod WellFormed
-pub mod Describes
 pub mod FirstForm
 pub mod Tables
 pub mod Machine
@@ -13,8 +8,5 @@ pub mod Run
 pub mod Start
 pub mod StateText
 pub mod MeaningByParts
-pub mod TextLaw
-pub mod Soundness
-pub mod Safety
 pub mod Typing
 pub mod Runnable

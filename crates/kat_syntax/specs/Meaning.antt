@@ -6,14 +6,14 @@ use Rattle.kat_names.specs.Names.{position_of}
 use Rattle.kat_value.specs.declared.value.Value.{Value}
 use Rattle.kat_value.specs.declared.value.Value.TheVariants.{Unit as UnitValue, Bool as Truth, Bits as Number}
 use Rattle.kat_value.specs.Operations.{is_number, value_of_op}
-use Rattle.kat_syntax.specs.declared.place.Place.{Place}
-use Rattle.kat_syntax.specs.declared.expr.Expr.{Expr}
-use Rattle.kat_syntax.specs.declared.expr.Expr.TheOpen.{Expr-F, Name as Named, Unit, Bits, Apply}
-use Rattle.kat_syntax.specs.declared.expr.Expr.TheFolds.{fold-Expr}
-use Rattle.kat_syntax.specs.declared.stm.Stm.{Stm}
-use Rattle.kat_syntax.specs.declared.stm.Stm.TheOpen.{Stm-F, Ret, Let, If, Read, Write, Fail as FailStm}
-use Rattle.kat_syntax.specs.declared.stm.Stm.TheFolds.{map-Stm, fold-Stm}
-use Rattle.kat_syntax.specs.Trees.{trees_of_expr, stm_trees}
+use Rattle.kat_ast.specs.declared.place.Place.{Place}
+use Rattle.kat_ast.specs.declared.expr.Expr.{Expr}
+use Rattle.kat_ast.specs.declared.expr.Expr.TheOpen.{Expr-F, Name as Named, Unit, Bits, Apply}
+use Rattle.kat_ast.specs.declared.expr.Expr.TheFolds.{fold-Expr}
+use Rattle.kat_ast.specs.declared.stm.Stm.{Stm}
+use Rattle.kat_ast.specs.declared.stm.Stm.TheOpen.{Stm-F, Ret, Let, If, Read, Write, Fail as FailStm}
+use Rattle.kat_ast.specs.declared.stm.Stm.TheFolds.{map-Stm, fold-Stm}
+use Rattle.kat_ast.specs.Trees.{trees_of_expr, stm_trees}
 use Rattle.kat_syntax.specs.Tables.{Name}
 use Rattle.kat_syntax.specs.Machine.{MachineState, Progress}
 

@@ -2,12 +2,12 @@
 use Rattle.std.specs.Prelude.{ℕ, ◌+◌, ◌==◌, ◌&&◌, if◌then◌else◌, List, [], ◌∷◌, Option, Some, None, slice_get, unwrap_or}
 use Rattle.kat_value.specs.declared.value.Value.TheVariants.{Bits as Number}
 use Rattle.kat_value.specs.Operations.{is_number}
-use Rattle.kat_syntax.specs.declared.place.Place.{Place}
-use Rattle.kat_syntax.specs.declared.decl.Spec.{Spec}
-use Rattle.kat_syntax.specs.declared.decl.TypeName.{TypeName}
-use Rattle.kat_syntax.specs.declared.decl.TypeName.TheVariants.{Bits}
-use Rattle.kat_syntax.specs.declared.decl.RegisterKind.{RegisterKind}
-use Rattle.kat_syntax.specs.declared.decl.RegisterKind.TheVariants.{Outside}
+use Rattle.kat_ast.specs.declared.place.Place.{Place}
+use Rattle.kat_ast.specs.Spec.{Spec}
+use Rattle.kat_ast.specs.declared.decl.TypeName.{TypeName}
+use Rattle.kat_ast.specs.declared.decl.TypeName.TheVariants.{Bits}
+use Rattle.kat_ast.specs.declared.decl.RegisterKind.{RegisterKind}
+use Rattle.kat_ast.specs.declared.decl.RegisterKind.TheVariants.{Outside}
 use Rattle.kat_syntax.specs.Tables.{RegisterDecl, registers_of}
 use Rattle.kat_syntax.specs.Machine.{MachineState}
 use Rattle.kat_syntax.specs.Meaning.{set_register}

@@ -1,7 +1,7 @@
 -- The specifications that can be run today.
 use Rattle.std.specs.Prelude.{◌≡◌, ◌≤◌, true, [], length, IsSome, IfSome, unwrap_or}
 use Rattle.kat_names.specs.Names.{AllDiffer}
-use Rattle.kat_syntax.specs.declared.decl.Spec.{Spec}
+use Rattle.kat_ast.specs.Spec.{Spec}
 use Rattle.kat_syntax.specs.Tables.{function_from, step_of}
 use Rattle.kat_syntax.specs.Cycle.{register_names}
 use Rattle.kat_syntax.specs.FirstForm.{are_first_decls}

@@ -4,7 +4,7 @@ use Rattle.std.specs.Fmt.{decimal}
 use Rattle.kat_value.specs.declared.value.Value.{Value}
 use Rattle.kat_value.specs.declared.value.Value.TheVariants.{Unit, Bool as Truth, Bits}
 use Rattle.kat_value.specs.Equality.{value_eq}
-use Rattle.kat_syntax.specs.declared.decl.Spec.{Spec}
+use Rattle.kat_ast.specs.Spec.{Spec}
 use Rattle.kat_syntax.specs.Tables.{Name}
 use Rattle.kat_syntax.specs.Machine.{MachineState}
 use Rattle.kat_syntax.specs.Cycle.{register_names}

@@ -2,16 +2,14 @@
 
 ghost use Rattle.std.specs.Prelude.{◌≡◌, ◌+◌, ◌<◌, ◌^◌, true, IfOk};
 ghost use Rattle.kat_names.specs.Names.{position_of};
-ghost use Rattle.kat_syntax.specs.Trees.{trees_of_stm};
+ghost use Rattle.kat_ast.specs.Trees.{trees_of_stm};
 ghost use Rattle.kat_syntax.specs.FirstForm.{is_first_stm};
 ghost use Rattle.kat_syntax.specs.Runnable.{IsFirstForm};
 ghost use Rattle.kat_syntax.specs.Cycle.{register_names};
 ghost use Rattle.kat_syntax.specs.Checked.{IsStepFunction};
 
-use crate::count::{count_params, count_type};
-use crate::decl::{DeclForm, Spec};
-use crate::stm::Stm;
 use crate::tables::{register_list, register_table, step_declaration};
+use kat_ast::{DeclForm, Spec, Stm, count_params, count_type};
 use kat_names::Table;
 use kat_text::Text;
 use sqlite_items::Items;
@@ -30,10 +28,10 @@ pub struct Checked {
 }
 
 impl Model for Checked {
-    ghost use Rattle.kat_syntax.specs.declared.decl.Spec.{Spec};
-    ghost use Rattle.kat_syntax.specs.contracts.expr.Expr as expr;
-    ghost use Rattle.kat_syntax.specs.contracts.stm.Stm as stm;
-    ghost use Rattle.kat_syntax.specs.contracts.assertion.Assertion as assertion;
+    ghost use Rattle.kat_ast.specs.Spec.{Spec};
+    ghost use Rattle.kat_ast.specs.contracts.expr.Expr as expr;
+    ghost use Rattle.kat_ast.specs.contracts.stm.Stm as stm;
+    ghost use Rattle.kat_ast.specs.contracts.assertion.Assertion as assertion;
     ghost use Rattle.std.specs.Coded.{codes};
 
     ghost Value = { Spec };
@@ -53,7 +51,7 @@ impl Checked {
         requires { IsFirstForm spec }
         ensures { IfOk result (λ checked. checked ≡ spec) }
     {
-        let decls = spec.decls.as_slice();
+        let decls = spec.decls();
         let registers = register_table(alloc, decls)?;
         let names = register_list(alloc, decls)?;
         let step = step_declaration(decls);
@@ -92,7 +90,7 @@ impl Checked {
         ensures small { result.body_at + trees_of_stm result.body.now < 2 ^ 32 }
         ensures first { is_first_stm result.body.now ≡ true }
     {
-        match self.spec.decls.as_slice()[self.step].form() {
+        match self.spec.decls()[self.step].form() {
             DeclForm::Fun {
                 params,
                 result,

@@ -7,7 +7,7 @@ ghost use Rattle.kat_syntax.specs.Tables.{function_from, is_function, step_of};
 ghost use Rattle.kat_syntax.specs.Cycle.{register_names};
 ghost use Rattle.kat_syntax.specs.Checked.{declared_at, IsStep};
 
-use crate::decl::{Decl, DeclForm};
+use kat_ast::{Decl, DeclForm};
 use kat_names::{NameError, Table};
 use kat_text::Text;
 use sqlite_items::Items;

@@ -1,7 +1,7 @@
 -- What a job does with its inputs is one answer, whose status is none of a file.
 use Rattle.std.proofs.Common.{◌≡◌, inl, inr, List, [], ◌∷◌, Option, None, Some, refl, ap, sym, subst, ◌∙◌, replicate}
-use Rattle.kat_syntax.specs.declared.decl.Spec.{Spec}
-use Rattle.kat_syntax.specs.Describes.{canonical_text}
+use Rattle.kat_ast.specs.Spec.{Spec}
+use Rattle.kat_ast.specs.Describes.{canonical_text}
 use Rattle.kat_syntax.specs.Machine.{MachineState}
 use Rattle.kat_syntax.specs.Run.{Cycle, RunEnd, Ended, OutIn, FailedIn, run_of}
 use Rattle.kat_words.specs.declared.asked.Job.{Job}

@@ -1,15 +1,15 @@
 -- The runs of machines and images that files tell are runs of their machines.
 use Rattle.std.proofs.Common.{◌≡◌, ℕ, ◌<◌, ◌≤◌, ◌^◌, ◌++◌, length, replicate, sym, ap, ◌∙◌, arith}
 use Rattle.std.proofs.lemmas.List.{length-replicate}
-use Rattle.kat_syntax.specs.declared.decl.Spec.{Spec}
+use Rattle.kat_ast.specs.Spec.{Spec}
 use Rattle.kat_syntax.specs.Run.{Cycle, Run}
 use Rattle.kat_syntax.specs.StateText.{state_text_of}
-use Rattle.kat_syntax.specs.Soundness.{CanRun, Setup, TextTellsItsRun, BeginningTellsItsRun}
+use Rattle.kat_laws.specs.Soundness.{CanRun, Setup, TextTellsItsRun, BeginningTellsItsRun}
 use Rattle.kat_image.specs.States.{ImagesAreStates}
 use Rattle.kat_top.specs.Told.{IsToldRun, TextTellsToldRun, BeginningTellsToldRun}
 
 can_run : (spec : Spec) (run : Run) → IsToldRun spec run → CanRun spec
-can_run spec run told = record { first = told.machine.first; written = told.machine.reads.described.decls }
+can_run spec run told = record { first = told.machine.first; written = told.machine.reads.described.kept.decls }
 
 few_events : (n : ℕ) → n ≤ 1000000 → length (replicate n Cycle) < 2 ^ 64
 few_events n few = let counted : length (replicate n Cycle) ≡ n = length-replicate n Cycle in omega arith

@@ -5,9 +5,9 @@ use Rattle.kat_tree.specs.declared.error.TreeError.TheVariants as error
 use Rattle.kat_tree.specs.declared.tree.Tree.{Tree}
 use Rattle.kat_tree.specs.Spelling.{Spells}
 use Rattle.kat_tree.specs.Faults.{IsFirstFault}
-use Rattle.kat_syntax.specs.declared.decl.Spec.{Spec}
-use Rattle.kat_syntax.specs.declared.wanted.Wanted.{Wanted}
-use Rattle.kat_syntax.specs.Describes.{Reads}
+use Rattle.kat_ast.specs.Spec.{Spec}
+use Rattle.kat_ast.specs.declared.wanted.Wanted.{Wanted}
+use Rattle.kat_ast.specs.Describes.{Reads}
 use Rattle.kat_syntax.specs.Machine.{MachineState}
 use Rattle.kat_syntax.specs.Runnable.{IsFirstForm}
 use Rattle.kat_forms.specs.Reading.{IsFirstMisfit}

@@ -4,7 +4,8 @@ ghost use Rattle.std.specs.Prelude.{◌≡◌, ◌++◌, IfOk, OnOk};
 ghost use Rattle.kat_top.specs.Faults.{fault_text_of, read_line, long_line, tree_line, form_line, out_line, failed_line, word_of_kind, word_of_wanted};
 
 use kat_runner::push_decimal;
-use kat_syntax::{Place, Wanted};
+use kat_forms::Wanted;
+use kat_syntax::Place;
 use kat_text::Text;
 use std::alloc::{AllocError, Global};
 

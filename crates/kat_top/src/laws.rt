@@ -10,7 +10,8 @@ ghost use Rattle.kat_top.specs.Told.{TextTellsToldRun, BeginningTellsToldRun};
 
 use kat_forms::written_fits;
 use kat_image::{images_are_states, one_state};
-use kat_syntax::{one_reading, text_tells_its_run};
+use kat_laws::text_tells_its_run;
+use kat_syntax::one_reading;
 use kat_tree::one_outcome;
 
 /// What the lower crates say of the bytes of a file.

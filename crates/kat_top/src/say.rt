@@ -1,7 +1,7 @@
 //! What is written: a text with its status.
 
 ghost use Rattle.std.specs.Prelude.{◌≡◌};
-ghost use Rattle.kat_syntax.specs.Describes.{canonical_text};
+ghost use Rattle.kat_ast.specs.Describes.{canonical_text};
 ghost use Rattle.kat_top.specs.Answers.{Gives, IsPlain, answer_of_error, answer_of_fault};
 ghost use Rattle.kat_top.specs.declared.status.Status.TheVariants as status;
 

@@ -6,10 +6,10 @@ use Rattle.std.proofs.lemmas.List.{drop_all}
 use Rattle.std.specs.Prelude.{option_and_then, option_map}
 use Rattle.kat_value.specs.declared.op.Op.{Op}
 use Rattle.kat_value.specs.declared.types.Ty.{Ty}
-use Rattle.kat_syntax.specs.declared.expr.Expr.{Expr}
-use Rattle.kat_syntax.specs.declared.expr.Expr.TheVariants.{Apply as ApplyExpr}
-use Rattle.kat_syntax.specs.declared.expr.Expr.TheViews.{out-Expr, outs-Apply}
-use Rattle.kat_syntax.specs.declared.expr.Expr.TheFolds.{map-Expr, fold_out-Expr}
+use Rattle.kat_ast.specs.declared.expr.Expr.{Expr}
+use Rattle.kat_ast.specs.declared.expr.Expr.TheVariants.{Apply as ApplyExpr}
+use Rattle.kat_ast.specs.declared.expr.Expr.TheViews.{out-Expr, outs-Apply}
+use Rattle.kat_ast.specs.declared.expr.Expr.TheFolds.{map-Expr, fold_out-Expr}
 use Rattle.kat_syntax.specs.Typing.{Scope, known_of_expr, expr_known, Known, unless, takes, fixed_behind, fixed_by, args_faults, type_of_op}
 use Rattle.kat_typing.specs.Clean.{when, is_nil, clean, args_clean}
 

@@ -13,8 +13,8 @@ use Rattle.kat_value.specs.declared.types.Ty.{Ty}
 use Rattle.std.proofs.lemmas.Bool.{or_parts, or_from}
 use Rattle.std.proofs.lemmas.Bool.Decides.{nat_tests}
 use Rattle.std.proofs.lemmas.List.Folds.{list_any-append}
-use Rattle.kat_syntax.specs.declared.decl.DeclForm.{DeclForm}
-use Rattle.kat_syntax.specs.declared.decl.DeclForm.TheVariants.{Register, Fun}
+use Rattle.kat_ast.specs.declared.decl.DeclForm.{DeclForm}
+use Rattle.kat_ast.specs.declared.decl.DeclForm.TheVariants.{Register, Fun}
 use Rattle.kat_syntax.specs.Tables.{Name, RegisterDecl, registers_of}
 use Rattle.kat_syntax.specs.Cycle.{register_names}
 use Rattle.kat_syntax.specs.Typing.{Declared, DeclaredName, TypeFault, in_decl, unless, is_among, names_from, taken_faults, type_of_name, declared_by}

@@ -2,15 +2,15 @@
 use Rattle.std.proofs.Common.{◌≡◌, ℕ, ◌+◌, List, [], ◌∷◌, Some, None, ap, ◌∙◌}
 use Rattle.kat_value.specs.declared.types.Ty.TheVariants as ty
 use Rattle.kat_value.specs.declared.op.Op.TheVariants.{Ult, Add}
-use Rattle.kat_syntax.specs.declared.expr.Expr.{Expr}
-use Rattle.kat_syntax.specs.declared.expr.Expr.TheOpen.{Expr-F, Name, Unit, Bits, Apply}
-use Rattle.kat_syntax.specs.declared.expr.Expr.TheViews.{roll-Expr}
-use Rattle.kat_syntax.specs.declared.expr.Expr.TheFolds.{map-Expr, fold-roll-Expr}
-use Rattle.kat_syntax.specs.declared.stm.Stm.{Stm}
-use Rattle.kat_syntax.specs.declared.stm.Stm.TheOpen.{Stm-F, Ret, Let, If, Read, Write}
-use Rattle.kat_syntax.specs.declared.stm.Stm.TheViews.{roll-Stm}
-use Rattle.kat_syntax.specs.declared.stm.Stm.TheFolds.{map-Stm, fold-roll-Stm}
-use Rattle.kat_syntax.specs.Trees.{expr_trees, trees_of_expr}
+use Rattle.kat_ast.specs.declared.expr.Expr.{Expr}
+use Rattle.kat_ast.specs.declared.expr.Expr.TheOpen.{Expr-F, Name, Unit, Bits, Apply}
+use Rattle.kat_ast.specs.declared.expr.Expr.TheViews.{roll-Expr}
+use Rattle.kat_ast.specs.declared.expr.Expr.TheFolds.{map-Expr, fold-roll-Expr}
+use Rattle.kat_ast.specs.declared.stm.Stm.{Stm}
+use Rattle.kat_ast.specs.declared.stm.Stm.TheOpen.{Stm-F, Ret, Let, If, Read, Write}
+use Rattle.kat_ast.specs.declared.stm.Stm.TheViews.{roll-Stm}
+use Rattle.kat_ast.specs.declared.stm.Stm.TheFolds.{map-Stm, fold-roll-Stm}
+use Rattle.kat_ast.specs.Trees.{expr_trees, trees_of_expr}
 use Rattle.kat_syntax.specs.Typing.{Declared, Scope, Known, Fault, inside, expr_known, known_of_expr, stm_known, known_of_stm}
 
 -- the names n, a and f

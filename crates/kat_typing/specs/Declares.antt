@@ -1,7 +1,7 @@
 -- What declarations declare, one after another, as long as no name stands twice.
 use Rattle.std.specs.Prelude.{if◌then◌else◌, List, [], ◌∷◌, ◌++◌, Option, None, Some, option_and_then}
-use Rattle.kat_syntax.specs.declared.decl.DeclForm.{DeclForm}
-use Rattle.kat_syntax.specs.declared.decl.DeclForm.TheVariants.{Register, Fun}
+use Rattle.kat_ast.specs.declared.decl.DeclForm.{DeclForm}
+use Rattle.kat_ast.specs.declared.decl.DeclForm.TheVariants.{Register, Fun}
 use Rattle.kat_syntax.specs.Tables.{Name}
 use Rattle.kat_syntax.specs.Typing.{Declared, is_among, type_of_name}
 

@@ -1,8 +1,8 @@
 -- Whether a specification can be run, as a test.
 use Rattle.std.specs.Prelude.{Bool, ◌&&◌, Some, []}
 use Rattle.kat_value.specs.declared.types.Ty.TheVariants.{Unit}
-use Rattle.kat_syntax.specs.declared.stm.Stm.{Stm}
-use Rattle.kat_syntax.specs.declared.decl.Spec.{Spec}
+use Rattle.kat_ast.specs.declared.stm.Stm.{Stm}
+use Rattle.kat_ast.specs.Spec.{Spec}
 use Rattle.kat_syntax.specs.FirstForm.{are_first_decls}
 use Rattle.kat_syntax.specs.Typing.{Declared, agree, known_of_stm, type_faults}
 use Rattle.kat_typing.specs.Clean.{is_nil}

@@ -103,7 +103,7 @@ pub fn is_first_form(alloc: Global, spec: &Spec) -> Result<bool, AllocError>
     ensures yes { IfOk result (λ b. IsTrue b → IsFirstForm spec.now) }
     ensures no { IfOk result (λ b. IsFalse b → IsFirstForm spec.now → ⊥) }
 {
-    let decls = spec.decls.as_slice();
+    let decls = spec.decls();
     if decls.len() > MOST_DECLARATIONS || !are_first_decls(decls) || !has_one_step(decls) {
         return Ok(false);
     }

@@ -1,5 +1,5 @@
-use Rattle.kat_syntax.specs.Formed.{is_name}
-use Rattle.kat_syntax.specs.Written.{word}
+use Rattle.kat_ast.specs.Formed.{is_name}
+use Rattle.kat_ast.specs.Written.{word}
 use Rattle.kat_forms.proofs.Lists.{SoFar}
 use Rattle.kat_forms.proofs.params.names_of.Given as goal
 

@@ -1,0 +1,70 @@
+-- The tree of an assertion is read back as the assertion.
+use Rattle.std.proofs.Common.{◌≡◌, Bool, true, ◌&&◌, List, [], ◌∷◌, map, sym, ap, ◌∙◌, refl, subst}
+use Rattle.std.specs.Prelude.{codes}
+use Rattle.std.proofs.lemmas.Bool.{and_parts}
+use Rattle.kat_tree.specs.declared.tree.Tree.{Tree}
+use Rattle.kat_tree.specs.declared.tree.Tree.TheVariants as tree
+use Rattle.kat_ast.specs.declared.decl.Param.{Param}
+use Rattle.kat_ast.specs.declared.assertion.Assertion.{Assertion}
+use Rattle.kat_ast.specs.declared.assertion.Assertion.TheOpen.{Assertion-F, Pure, Register, Cell, Star, If, Exists, Predicate, Region}
+use Rattle.kat_ast.specs.declared.assertion.Assertion.TheViews.{roll-Assertion}
+use Rattle.kat_ast.specs.declared.assertion.Assertion.TheFolds.{map-Assertion, fold-roll-Assertion, ind-Assertion}
+use Rattle.kat_ast.specs.Written.{word, tree_of_type, tree_of_expr, assertion_tree, tree_of_assertion}
+use Rattle.kat_ast.specs.Formed.{is_name, every, is_formed_type, is_formed_expr, are_formed_exprs, assertion_formed, is_formed_assertion}
+use Rattle.kat_ast.proofs.Decoded.{decoded, assertion_by, word_back, assertion_form}
+use Rattle.kat_ast.proofs.ExprBack.{expr_back, exprs_back}
+use Rattle.kat_ast.proofs.TypeBack.{param_back}
+
+abbrev IsBack : Assertion → Type 0
+IsBack a = is_formed_assertion a ≡ true → (decoded (tree_of_assertion a)).assertion ≡ a
+
+abbrev Known : Type 0
+Known = (a : Assertion) × IsBack a
+
+parts_back : (parts : List Known) → every (map is_formed_assertion (map (λ e. e.0) parts)) ≡ true →
+    map (λ d. d.assertion) (map decoded (map tree_of_assertion (map (λ e. e.0) parts))) ≡ map (λ e. e.0) parts
+parts_back [] formed = refl
+parts_back (p ∷ ps) formed =
+    let both = and_parts (is_formed_assertion p.0) (every (map is_formed_assertion (map (λ e. e.0) ps))) formed in
+    let here = p.1 both.0 in
+    let more = parts_back ps both.1 in
+    cc
+
+layer_back : (y : Assertion-F Known) → assertion_formed (map-Assertion Assertion Bool is_formed_assertion (map-Assertion Known Assertion (λ e. e.0) y)) ≡ true →
+    (decoded (assertion_tree (map-Assertion Assertion Tree tree_of_assertion (map-Assertion Known Assertion (λ e. e.0) y)))).assertion
+    ≡ roll-Assertion (map-Assertion Known Assertion (λ e. e.0) y)
+unfolding assertion_by
+layer_back (Pure e) formed = cc (assertion_form (codes "pure") (tree_of_expr e ∷ []), expr_back e formed)
+layer_back (Register r e) formed =
+    let both = and_parts (is_name r) (is_formed_expr e) formed in
+    cc (assertion_form (codes "reg") (word r ∷ tree_of_expr e ∷ []), word_back r, expr_back e both.1)
+layer_back (Cell index e) formed =
+    let both = and_parts (is_formed_expr index) (is_formed_expr e) formed in
+    cc (assertion_form (codes "cell") (tree_of_expr index ∷ tree_of_expr e ∷ []), expr_back index both.0, expr_back e both.1)
+layer_back (Star parts) formed =
+    assertion_form (codes "star") (map tree_of_assertion (map (λ e. e.0) parts)) ∙ ap (λ ps. roll-Assertion (Star ps)) (parts_back parts formed)
+layer_back (If e a b) formed =
+    let parts = and_parts (is_formed_expr e) (is_formed_assertion a.0 && is_formed_assertion b.0) formed in
+    let more = and_parts (is_formed_assertion a.0) (is_formed_assertion b.0) parts.1 in
+    cc (assertion_form (codes "if") (tree_of_expr e ∷ tree_of_assertion a.0 ∷ tree_of_assertion b.0 ∷ []), expr_back e parts.0, a.1 more.0, b.1 more.1)
+layer_back (Exists x type body) formed =
+    let parts = and_parts (is_name x) (is_formed_type type && is_formed_assertion body.0) formed in
+    let more = and_parts (is_formed_type type) (is_formed_assertion body.0) parts.1 in
+    let bound : Param = record { name = x; ty = type } in
+    let own : (is_name x && is_formed_type type) ≡ true = simp (parts.0, more.0) in
+    assertion_form (codes "exists") (tree.List (word x ∷ tree_of_type type ∷ []) ∷ tree_of_assertion body.0 ∷ [])
+    ∙ ap (λ (p : Param). roll-Assertion (Exists p.name p.ty (decoded (tree_of_assertion body.0)).assertion)) (param_back bound own)
+    ∙ ap (λ a. roll-Assertion (Exists x type a)) (body.1 more.1)
+layer_back (Predicate p args) formed =
+    let both = and_parts (is_name p) (are_formed_exprs args) formed in
+    cc (assertion_form (codes "pred") (word p ∷ map tree_of_expr args), word_back p, exprs_back args both.1)
+layer_back (Region g args) formed =
+    let both = and_parts (is_name g) (are_formed_exprs args) formed in
+    cc (assertion_form (codes "region") (word g ∷ map tree_of_expr args), word_back g, exprs_back args both.1)
+
+-- the tree of an assertion that has its form is read back as the assertion
+pub assertion_back : (a : Assertion) → is_formed_assertion a ≡ true → (decoded (tree_of_assertion a)).assertion ≡ a
+assertion_back = ind-Assertion IsBack (λ x y is formed.
+    ap (λ t. (decoded t).assertion) (fold-roll-Assertion Tree assertion_tree x)
+    ∙ subst (λ z. assertion_formed (map-Assertion Assertion Bool is_formed_assertion z) ≡ true → (decoded (assertion_tree (map-Assertion Assertion Tree tree_of_assertion z))).assertion ≡ roll-Assertion z) is
+    (layer_back y) (sym (fold-roll-Assertion Bool assertion_formed x) ∙ formed))

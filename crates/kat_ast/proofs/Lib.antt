@@ -1,0 +1,14 @@
+pub mod Decoded
+pub mod ExprBack
+pub mod TypeBack
+pub mod StmBack
+pub mod AssertionBack
+pub mod DeclBack
+pub mod OneForm
+pub mod Counting
+pub mod ExprCount
+pub mod StmCount
+pub mod AssertionCount
+pub mod DeclCount
+pub mod Writable
+pub mod Reading

@@ -1,0 +1,27 @@
+-- Which tree is which specification, and which bytes stand for it.
+use Rattle.std.specs.Prelude.{◌≡◌, ℕ, List, [], ◌∷◌, ◌++◌, map, codes}
+use Rattle.kat_tree.specs.declared.tree.Tree.{Tree}
+use Rattle.kat_tree.specs.Spelling.{Spells}
+use Rattle.kat_tree.specs.Written.{text_of_tree}
+use Rattle.kat_ast.specs.Spec.{Spec}
+use Rattle.kat_ast.specs.Written.{number, form, tree_of_decl}
+use Rattle.kat_ast.specs.WellFormed.{IsSpec}
+
+-- `(spec V D ..)`
+abbrev pub tree_of_spec : Spec → Tree
+tree_of_spec spec = form (codes "spec") (number spec.version ∷ map tree_of_decl spec.decls)
+
+-- the tree is that of the specification, which has the form of the language's text
+pub record Describes (tree : Tree) (spec : Spec) : Type 0 where
+  pub tree_is : tree ≡ tree_of_spec spec
+  pub kept : IsSpec spec
+
+-- the bytes spell a tree that describes the specification
+pub record Reads (bytes : List ℕ) (spec : Spec) : Type 0 where
+  pub tree : Tree
+  pub spelled : Spells bytes tree
+  pub described : Describes tree spec
+
+-- the bytes of a specification: one space between two trees, none inside the brackets' ends, one newline at the end
+abbrev pub canonical_text : Spec → List ℕ
+canonical_text spec = text_of_tree (tree_of_spec spec) ++ 10 ∷ []

@@ -1,0 +1,16 @@
+pub mod TextNumbers
+pub mod TextValues
+pub mod TextLines
+pub mod TextPieces
+pub mod SoundValues
+pub mod SoundExpr
+pub mod SoundRegisters
+pub mod SoundStm
+pub mod SoundFail
+pub mod SoundCycle
+pub mod SoundNames
+pub mod SoundRun
+pub mod SafeExpr
+pub mod SafeParts
+pub mod SafeStm
+pub mod SafeCycle

@@ -1,5 +1,0 @@
-use Rattle.kat_syntax.proofs.TextPieces.{beginning_tells_run}
-use Rattle.kat_syntax.proofs.law.text_tells_its_end.Goals as goal
-
-pub returns : goal.returns
-returns c = beginning_tells_run c.equality_is_tested.ensures

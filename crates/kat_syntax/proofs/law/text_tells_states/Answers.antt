@@ -1,5 +1,0 @@
-use Rattle.kat_syntax.proofs.TextPieces.{text_tells_run}
-use Rattle.kat_syntax.proofs.law.text_tells_states.Goals as goal
-
-pub returns : goal.returns
-returns c = text_tells_run c.equality_is_tested.ensures
