@@ -18,8 +18,12 @@ overlong_after_read (Err Failed) overlong = overlong
 overlong_after_read (Err (TooLong taken)) overlong = next_count overlong
 overlong_after_read (Err Memory) overlong = overlong
 
+-- the reads that were made, with their names and limits, in order
+abbrev pub ReadList : Type 0
+ReadList = List (List ℕ × ℕ)
+
 -- the read was added at the end of the list of reads; only for want of memory may it be missing
-abbrev pub IsNoted : {T : Type 0} → Result T ReadError → List (List ℕ × ℕ) → List (List ℕ × ℕ) → List ℕ × ℕ → Type 0
+abbrev pub IsNoted : {T : Type 0} → Result T ReadError → ReadList → ReadList → List ℕ × ℕ → Type 0
 IsNoted (Ok done) old new read = new ≡ old ++ read ∷ []
 IsNoted (Err Failed) old new read = new ≡ old ++ read ∷ []
 IsNoted (Err (TooLong taken)) old new read = new ≡ old ++ read ∷ []

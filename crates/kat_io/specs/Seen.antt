@@ -6,8 +6,9 @@ use Rattle.kat_io.specs.Contents.{with_bytes, Grew}
 use Rattle.kat_io.specs.ReadErrors.{faults_after_read, overlong_after_read, IsNoted}
 use Rattle.kat_io.specs.SinkErrors.{faults_after_write}
 
--- what is seen of files: the bytes of each name, where they are told; how many reads failed; how many found more bytes
--- than their limit; and the names and limits of the reads that were made, in order
+-- what is seen of files: the bytes of each name, where they are told; how many reads failed; how
+-- many found more bytes than their limit; and the names and limits of the reads that were made, in
+-- order
 pub record FilesSeen : Type 0 where
   pub told : List ℕ → Option (List ℕ)
   pub faults : ℕ
@@ -33,16 +34,19 @@ pub record Kept (old new : FilesSeen) : Type 0 where
   pub faults : old.faults ≤ new.faults
   pub overlong : old.overlong ≤ new.overlong
 
--- what a read with this answer does: what is told stays, its own error is counted and nothing else, and it is noted
-pub record IsRead {T : Type 0} (result : Result T ReadError) (read : List ℕ × ℕ) (old new : FilesSeen) : Type 0 where
+-- a read that answers this: what is told stays, its own error is counted and nothing else, and its
+-- name and limit are noted
+pub record IsRead {T : Type 0} (result : Result T ReadError) (read : List ℕ × ℕ)
+    (old new : FilesSeen) : Type 0 where
   pub told : new.told ≡ old.told
   pub faults : new.faults ≡ faults_after_read result old.faults
   pub overlong : new.overlong ≡ overlong_after_read result old.overlong
   pub noted : IsNoted result old.reads new.reads read
 
--- what a write of these bytes with this answer does: a failure is counted and nothing else; at the end of what the sink
--- holds stand all the bytes, or after an error some first ones
-pub record IsWrite {T : Type 0} (result : Result T SinkError) (bytes : List ℕ) (old new : SinkSeen) : Type 0 where
+-- a write of these bytes that answers this: its failure is counted and nothing else; at the end of
+-- what the sink holds stand all the bytes, or after an error some first ones
+pub record IsWrite {T : Type 0} (result : Result T SinkError) (bytes : List ℕ)
+    (old new : SinkSeen) : Type 0 where
   pub faults : new.faults ≡ faults_after_write result old.faults
   pub whole : OnOk result (new.contents ≡ with_bytes old.contents bytes)
   pub front : OnErr result (Grew old.contents new.contents bytes)

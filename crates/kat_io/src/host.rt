@@ -17,8 +17,8 @@ use std::{fs, rt};
 /// How many bytes a turn asks for at most.
 const PIECE_LEN: usize = 8192;
 
-/// The files of a runtime, such as the `HostRuntime` that `main` is given. An error of the host, also a call
-/// that a signal interrupted, is a fault.
+/// The files of a runtime, such as the `HostRuntime` that `main` is given. An error of the host,
+/// also a call that a signal interrupted, is a fault.
 #[derive(Drop)]
 pub struct HostFiles<R> {
     rt: R,
@@ -93,7 +93,8 @@ fn append_through<R: Read>(file: &mut R, limit: u64, into: &mut Vec<u8>) -> Resu
 
 /// Appends bytes of the reader, `room` at most, and answers how many; none is its end.
 fn append_piece<R: Read>(file: &mut R, room: u64, into: &mut Vec<u8>) -> Result<u64, ReadError>
-    ensures takes { IfOk result (Takes (R.remaining file.old) (R.remaining file.new) into.old.items into.new.items) }
+    ensures takes { IfOk result
+        (Takes (R.remaining file.old) (R.remaining file.new) into.old.items into.new.items) }
     ensures end { IfOk result (λ count. count ≡ 0 → 0 < room → IsAtEnd (R.remaining file.new)) }
     ensures bound { IfOk result (λ count. count ≤ room) }
     ensures never_too_long { IfErr result (λ e. IfTooLong e (λ _. ⊥)) }
@@ -108,8 +109,8 @@ fn append_piece<R: Read>(file: &mut R, room: u64, into: &mut Vec<u8>) -> Result<
     Ok(count as u64)
 }
 
-/// A std writer as a sink. What a writer holds back in a buffer of its own is not yet out when a write
-/// answers, so hand in one that holds nothing back.
+/// A std writer as a sink. What a writer holds back in a buffer of its own is not yet out when a
+/// write answers, so hand in one that holds nothing back.
 #[derive(Drop)]
 pub struct HostSink<W> {
     writer: W,

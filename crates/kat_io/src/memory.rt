@@ -1,13 +1,13 @@
 //! Files and a sink that live in memory.
-ghost use Rattle.std.specs.Prelude.{false, ◌≡◌, ◌≤◌, ◌<◌, ◌-◌, ◌^◌, [], OnOk, OnErr, IfErr};
+ghost use Rattle.std.specs.Prelude.{false, ◌≡◌, ◌≤◌, ◌<◌, ◌-◌, ◌^◌, OnOk, OnErr, IfErr};
 ghost use Rattle.std.specs.Option.{option_copied};
 ghost use Rattle.kat_io.specs.Reads.{Appends};
 ghost use Rattle.kat_io.specs.ReadErrors.{IfTooLong, WentPast};
 ghost use Rattle.kat_io.specs.ReadErrors.{Answers as ReadAnswers};
 ghost use Rattle.kat_io.specs.SinkErrors.{Answers as WriteAnswers};
 ghost use Rattle.kat_io.specs.Seen.{IsRead, IsWrite, Kept};
-ghost use Rattle.kat_io.specs.FilesInMemory.{bytes_of, seen_files, next_read_fails, read_answer};
-ghost use Rattle.kat_io.specs.SinkInMemory.{seen_sink, next_write, next_write_fails, write_answer};
+ghost use Rattle.kat_io.specs.FilesInMemory.{bytes_of, new_files, seen_files, next_read_fails, read_answer};
+ghost use Rattle.kat_io.specs.SinkInMemory.{new_sink, seen_sink, next_write, next_write_fails, write_answer};
 
 use crate::read_log::ReadLog;
 use crate::{Files, ReadError, Sink, SinkError};
@@ -46,10 +46,10 @@ impl Model for MemoryFiles {
 }
 
 impl MemoryFiles {
-    /// `failing` has the numbers of the reads that fail, counted from 1. A read that is not noted, for want of
-    /// memory, is not counted.
+    /// `failing` has the numbers of the reads that fail, counted from 1. A read that is not noted,
+    /// for want of memory, is not counted.
     pub fn new(alloc: Global, files: Vec<Named>, failing: Vec<u64>) -> MemoryFiles
-        ensures { result ≡ record { files = files.items; failing = failing.items; reads = []; faults = 0; overlong = 0 } }
+        ensures { result ≡ new_files files.items failing.items }
     {
         MemoryFiles {
             files,
@@ -73,8 +73,10 @@ impl Files for MemoryFiles {
         requires { limit < 2 ^ 64 - 1 }
         ensures seen { IsRead result (name.now, limit) (seen_files self.old) (seen_files self.new) }
         ensures kept { Kept (seen_files self.old) (seen_files self.new) }
-        ensures ok { OnOk result (Appends (bytes_of self.old.files name.now) limit into.old.items into.new.items) }
-        ensures too_long { IfErr result (λ e. IfTooLong e (WentPast (bytes_of self.old.files name.now) limit)) }
+        ensures ok { OnOk result
+            (Appends (bytes_of self.old.files name.now) limit into.old.items into.new.items) }
+        ensures too_long { IfErr result
+            (λ e. IfTooLong e (WentPast (bytes_of self.old.files name.now) limit)) }
         ensures err { OnErr result (into.new.items ≡ into.old.items) }
 
         // Only the reads that were asked to fail, and those of a name that is not here.
@@ -110,8 +112,10 @@ fn find_bytes<'a>(files: &'a [Named], name: &str) -> Option<&'a [u8]>
 fn append_within(found: Option<&[u8]>, limit: u64, into: &mut Vec<u8>) -> Result<(), ReadError>
     requires { limit < 2 ^ 64 - 1 }
     ensures answer { ReadAnswers result (read_answer false (option_copied found.entry) limit) }
-    ensures ok { OnOk result (Appends (option_copied found.entry) limit into.old.items into.new.items) }
-    ensures too_long { IfErr result (λ e. IfTooLong e (WentPast (option_copied found.entry) limit)) }
+    ensures ok { OnOk result
+        (Appends (option_copied found.entry) limit into.old.items into.new.items) }
+    ensures too_long { IfErr result
+        (λ e. IfTooLong e (WentPast (option_copied found.entry) limit)) }
     ensures err { OnErr result (into.new.items ≡ into.old.items) }
 {
     match found {
@@ -146,7 +150,7 @@ impl Model for MemorySink {
 impl MemorySink {
     /// An empty sink. `failing` has the numbers of the writes that fail, counted from 1.
     pub fn new(alloc: Global, failing: Vec<u64>) -> MemorySink
-        ensures { result ≡ record { contents = []; failing = failing.items; writes = 0; faults = 0 } }
+        ensures { result ≡ new_sink failing.items }
     {
         MemorySink {
             contents: Vec::new(alloc),

@@ -7,8 +7,8 @@ use kat_text::Text;
 use sqlite_items::Items;
 use std::alloc::{AllocError, Global};
 
-/// The reads that were made, with their limits, and how many of them failed or went past their limit. The
-/// counts stay at the greatest u64.
+/// The reads that were made, with their limits, and how many of them failed or went past their
+/// limit. The counts stay at the greatest u64.
 #[derive(Drop)]
 pub(crate) struct ReadLog {
     alloc: Global,
@@ -34,7 +34,8 @@ impl ReadLog {
 
     /// Adds a read at the end.
     pub(crate) fn note(&mut self, name: &str, limit: u64) -> Result<(), AllocError>
-        ensures ok { OnOk result (self.new ≡ record self.old { reads = self.old.reads ++ (name.now, limit) ∷ [] }) }
+        ensures ok { OnOk result
+            (self.new ≡ record self.old { reads = self.old.reads ++ (name.now, limit) ∷ [] }) }
         ensures err { OnErr result (self.new ≡ self.old) }
     {
         let name = Text::new(self.alloc, name)?;

@@ -1,4 +1,5 @@
-//! What no clause says: that calls succeed where memory lasts, and what the host's files and writers do.
+//! What no clause says: that calls succeed where memory lasts, and what the host's files and
+//! writers do.
 ghost use Rattle.std.specs.Prelude.{◌≡◌, ◌≤◌, ℕ, List, length, IfSome, IfOk, IfErr, OnErr};
 ghost use Rattle.kat_io.specs.ReadErrors.{IfTooLong, WentPast};
 ghost use Rattle.kat_io.specs.Seen.{IsRead, IsWrite, Kept};
@@ -22,9 +23,11 @@ fn copy_file<F: Files, K: Sink>(
 ) -> Result<Result<(), SinkError>, ReadError>
     ensures read { IsRead result (name.now, 4194304) (F.seen files.old) (F.seen files.new) }
     ensures kept { Kept (F.seen files.old) (F.seen files.new) }
-    ensures done { IfOk result (λ written. (bytes : List ℕ) × IsWrite written bytes (K.seen sink.old) (K.seen sink.new)
+    ensures done { IfOk result (λ written. (bytes : List ℕ)
+        × IsWrite written bytes (K.seen sink.old) (K.seen sink.new)
         × (length bytes ≤ 4194304) × IfSome ((F.seen files.old).told name.now) (λ t. bytes ≡ t)) }
-    ensures too_long { IfErr result (λ e. IfTooLong e (WentPast ((F.seen files.old).told name.now) 4194304)) }
+    ensures too_long { IfErr result
+        (λ e. IfTooLong e (WentPast ((F.seen files.old).told name.now) 4194304)) }
     ensures unread { OnErr result (K.seen sink.new ≡ K.seen sink.old) }
 {
     let mut bytes = Vec::new(alloc);

@@ -1,4 +1,7 @@
 pub mod Equality
 pub mod Numbers
 pub mod Operations
+pub mod Signatures
 pub mod Typing
+pub mod Widths
+pub mod Words

@@ -1,4 +1,4 @@
-// Equality of values, which is equality at any one type.
+//! Equality of values, which is equality at any one type.
 
 ghost use Rattle.std.specs.Prelude.{◌≡◌, ◌↔◌, IsTrue};
 ghost use Rattle.kat_value.specs.Equality.{value_eq, values_eq, TestsEquality};

@@ -1,6 +1,6 @@
 use Rattle.std.proofs.Common.{nat_eq, ap, ◌∙◌, arith}
 use Rattle.kat_value.proofs.TypingLemmas.{nothing_left}
-use Rattle.kat_value.proofs.typing.fits_width.Goals as goal
+use Rattle.kat_value.proofs.width.is_below.Goals as goal
 
 pub returns : goal.returns
 returns c =
