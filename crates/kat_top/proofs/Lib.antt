@@ -9,3 +9,5 @@ pub mod Owed
 pub mod Rows
 pub mod Steps
 pub mod ToldRuns
+pub mod Written
+pub mod Trees

@@ -1,10 +1,9 @@
 -- The faults that are said, each in one line.
-use Rattle.std.specs.Prelude.{ℕ, List, ◌++◌, codes}
+use Rattle.std.specs.Prelude.{ℕ, List, [], ◌∷◌, ◌++◌, codes}
 use Rattle.std.specs.Fmt.{decimal}
 use Rattle.kat_ast.specs.declared.place.Place.{Place}
 use Rattle.kat_ast.specs.declared.wanted.Wanted.{Wanted}
 use Rattle.kat_ast.specs.declared.wanted.Wanted.TheVariants as wanted
-use Rattle.kat_syntax.specs.StateText.{newline}
 use Rattle.kat_top.specs.declared.fault.Fault.{Fault}
 use Rattle.kat_top.specs.declared.fault.Fault.TheVariants as fault
 use Rattle.kat_top.specs.declared.fault.TreeKind.{TreeKind}
@@ -33,38 +32,46 @@ word_of_wanted wanted.Assertion = codes "assertion"
 word_of_wanted wanted.Phase = codes "phase"
 word_of_wanted wanted.Part = codes "part"
 
+-- a space and a word
+abbrev pub part : List ℕ → List ℕ
+part word = 32 ∷ word
+
 -- `read NAME`
-abbrev pub read_line : List ℕ → List ℕ
-read_line name = codes "read " ++ name ++ newline
+abbrev pub read_words : List ℕ → List ℕ
+read_words name = codes "read" ++ part name
 
 -- `long NAME TAKEN`
-abbrev pub long_line : List ℕ → ℕ → List ℕ
-long_line name taken = codes "long " ++ name ++ codes " " ++ decimal taken ++ newline
+abbrev pub long_words : List ℕ → ℕ → List ℕ
+long_words name taken = codes "long" ++ part name ++ part (decimal taken)
 
 -- `tree KIND OFFSET`
-abbrev pub tree_line : TreeKind → ℕ → List ℕ
-tree_line kind offset = codes "tree " ++ word_of_kind kind ++ codes " " ++ decimal offset ++ newline
+abbrev pub tree_words : TreeKind → ℕ → List ℕ
+tree_words kind offset = codes "tree" ++ part (word_of_kind kind) ++ part (decimal offset)
 
 -- `form PLACE WANTED`
-abbrev pub form_line : ℕ → Wanted → List ℕ
-form_line place wanted = codes "form " ++ decimal place ++ codes " " ++ word_of_wanted wanted ++ newline
+abbrev pub form_words : ℕ → Wanted → List ℕ
+form_words place wanted = codes "form" ++ part (decimal place) ++ part (word_of_wanted wanted)
 
 -- `out CYCLE`
-abbrev pub out_line : ℕ → List ℕ
-out_line cycle = codes "out " ++ decimal cycle ++ newline
+abbrev pub out_words : ℕ → List ℕ
+out_words cycle = codes "out" ++ part (decimal cycle)
 
 -- `failed CYCLE DECL TREE`
-abbrev pub failed_line : ℕ → Place → List ℕ
-failed_line cycle site =
-    codes "failed " ++ decimal cycle ++ codes " " ++ decimal site.decl ++ codes " " ++ decimal site.tree ++ newline
+abbrev pub failed_words : ℕ → Place → List ℕ
+failed_words cycle site =
+    codes "failed" ++ part (decimal cycle) ++ part (decimal site.decl) ++ part (decimal site.tree)
 
--- the line of a fault
+-- the words of a fault
+abbrev pub words_of_fault : Fault → List ℕ
+words_of_fault fault.Usage = codes "usage"
+words_of_fault (fault.Read name) = read_words name
+words_of_fault (fault.Long name taken) = long_words name taken
+words_of_fault (fault.Tree kind offset) = tree_words kind offset
+words_of_fault (fault.Form place wanted) = form_words place wanted
+words_of_fault fault.Unbuilt = codes "unbuilt"
+words_of_fault (fault.Out cycle) = out_words cycle
+words_of_fault (fault.Failed cycle site) = failed_words cycle site
+
+-- the line of a fault: its words and a newline
 abbrev pub fault_text_of : Fault → List ℕ
-fault_text_of fault.Usage = codes "usage" ++ newline
-fault_text_of (fault.Read name) = read_line name
-fault_text_of (fault.Long name taken) = long_line name taken
-fault_text_of (fault.Tree kind offset) = tree_line kind offset
-fault_text_of (fault.Form place wanted) = form_line place wanted
-fault_text_of fault.Unbuilt = codes "unbuilt" ++ newline
-fault_text_of (fault.Out cycle) = out_line cycle
-fault_text_of (fault.Failed cycle site) = failed_line cycle site
+fault_text_of said = words_of_fault said ++ 10 ∷ []

@@ -1,12 +1,12 @@
 //! The faults that are said, and their lines.
 
 ghost use Rattle.std.specs.Prelude.{◌≡◌, ◌++◌, IfOk, OnOk};
-ghost use Rattle.kat_top.specs.Faults.{fault_text_of, read_line, long_line, tree_line, form_line, out_line, failed_line, word_of_kind, word_of_wanted};
+ghost use Rattle.kat_top.specs.Faults.{fault_text_of, words_of_fault, word_of_kind, word_of_wanted};
+ghost use Rattle.kat_top.specs.Faults.{read_words, long_words, tree_words, form_words, out_words, failed_words};
 
-use kat_runner::push_decimal;
 use kat_forms::Wanted;
 use kat_syntax::Place;
-use kat_text::Text;
+use kat_text::{Text, TextBuilder};
 use std::alloc::{AllocError, Global};
 
 /// What is wrong with a text that is no tree, in its first fault.
@@ -60,92 +60,82 @@ pub enum Fault {
 }
 
 /// The line of a fault.
-pub fn fault_text(alloc: Global, fault: &Fault) -> Result<Vec<u8>, AllocError>
-    ensures { IfOk result (λ text. text.items ≡ fault_text_of fault.now) }
+pub fn fault_text(alloc: Global, fault: &Fault) -> Result<Text, AllocError>
+    ensures { IfOk result (λ text. text ≡ fault_text_of fault.now) }
 {
-    let mut line = Vec::new(alloc);
-    push_fault(&mut line, fault)?;
-    Ok(line)
+    let mut line = TextBuilder::new(alloc);
+    push_words(&mut line, fault)?;
+    line.push_newline()?;
+    Ok(line.into_text())
 }
 
-/// The line of a fault, at the end.
-fn push_fault(line: &mut Vec<u8>, fault: &Fault) -> Result<(), AllocError>
-    ensures { OnOk result (line.new.items ≡ line.old.items ++ fault_text_of fault.now) }
+/// The words of a fault.
+fn push_words(line: &mut TextBuilder, fault: &Fault) -> Result<(), AllocError>
+    ensures { OnOk result (line.new ≡ line.old ++ words_of_fault fault.now) }
 {
     match fault {
-        Fault::Usage => line.extend_from_slice(b"usage\n"),
-        Fault::Read { name } => push_read(line, name.as_bytes()),
-        Fault::Long { name, taken } => push_long(line, name.as_bytes(), *taken),
+        Fault::Usage => line.push_text("usage"),
+        Fault::Read { name } => push_read(line, name.as_str()),
+        Fault::Long { name, taken } => push_long(line, name.as_str(), *taken),
         Fault::Tree { kind, offset } => push_tree(line, *kind, *offset),
         Fault::Form { place, wanted } => push_form(line, *place, *wanted),
-        Fault::Unbuilt => line.extend_from_slice(b"unbuilt\n"),
+        Fault::Unbuilt => line.push_text("unbuilt"),
         Fault::Out(cycle) => push_out(line, *cycle),
         Fault::Failed { cycle, site } => push_failed(line, *cycle, *site),
     }
 }
 
 /// `read NAME`
-fn push_read(line: &mut Vec<u8>, name: &[u8]) -> Result<(), AllocError>
-    ensures { OnOk result (line.new.items ≡ line.old.items ++ read_line name.now) }
+fn push_read(line: &mut TextBuilder, name: &str) -> Result<(), AllocError>
+    ensures { OnOk result (line.new ≡ line.old ++ read_words name.now) }
 {
-    line.extend_from_slice(b"read ")?;
-    line.extend_from_slice(name)?;
-    line.extend_from_slice(b"\n")
+    line.push_text("read")?;
+    line.push_part(name)
 }
 
 /// `long NAME TAKEN`
-fn push_long(line: &mut Vec<u8>, name: &[u8], taken: u64) -> Result<(), AllocError>
-    ensures { OnOk result (line.new.items ≡ line.old.items ++ long_line name.now taken) }
+fn push_long(line: &mut TextBuilder, name: &str, taken: u64) -> Result<(), AllocError>
+    ensures { OnOk result (line.new ≡ line.old ++ long_words name.now taken) }
 {
-    line.extend_from_slice(b"long ")?;
-    line.extend_from_slice(name)?;
-    line.extend_from_slice(b" ")?;
-    push_decimal(line, taken)?;
-    line.extend_from_slice(b"\n")
+    line.push_text("long")?;
+    line.push_part(name)?;
+    line.push_decimal_part(taken)
 }
 
 /// `tree KIND OFFSET`
-fn push_tree(line: &mut Vec<u8>, kind: TreeKind, offset: u64) -> Result<(), AllocError>
-    ensures { OnOk result (line.new.items ≡ line.old.items ++ tree_line kind offset) }
+fn push_tree(line: &mut TextBuilder, kind: TreeKind, offset: u64) -> Result<(), AllocError>
+    ensures { OnOk result (line.new ≡ line.old ++ tree_words kind offset) }
 {
-    line.extend_from_slice(b"tree ")?;
-    line.extend_from_slice(word_of_kind(kind).as_bytes())?;
-    line.extend_from_slice(b" ")?;
-    push_decimal(line, offset)?;
-    line.extend_from_slice(b"\n")
+    line.push_text("tree")?;
+    line.push_part(word_of_kind(kind))?;
+    line.push_decimal_part(offset)
 }
 
 /// `form PLACE WANTED`
-fn push_form(line: &mut Vec<u8>, place: u64, wanted: Wanted) -> Result<(), AllocError>
-    ensures { OnOk result (line.new.items ≡ line.old.items ++ form_line place wanted) }
+fn push_form(line: &mut TextBuilder, place: u64, wanted: Wanted) -> Result<(), AllocError>
+    ensures { OnOk result (line.new ≡ line.old ++ form_words place wanted) }
 {
-    line.extend_from_slice(b"form ")?;
-    push_decimal(line, place)?;
-    line.extend_from_slice(b" ")?;
-    line.extend_from_slice(word_of_wanted(wanted).as_bytes())?;
-    line.extend_from_slice(b"\n")
+    line.push_text("form")?;
+    line.push_decimal_part(place)?;
+    line.push_part(word_of_wanted(wanted))
 }
 
 /// `out CYCLE`
-fn push_out(line: &mut Vec<u8>, cycle: u64) -> Result<(), AllocError>
-    ensures { OnOk result (line.new.items ≡ line.old.items ++ out_line cycle) }
+fn push_out(line: &mut TextBuilder, cycle: u64) -> Result<(), AllocError>
+    ensures { OnOk result (line.new ≡ line.old ++ out_words cycle) }
 {
-    line.extend_from_slice(b"out ")?;
-    push_decimal(line, cycle)?;
-    line.extend_from_slice(b"\n")
+    line.push_text("out")?;
+    line.push_decimal_part(cycle)
 }
 
 /// `failed CYCLE DECL TREE`
-fn push_failed(line: &mut Vec<u8>, cycle: u64, site: Place) -> Result<(), AllocError>
-    ensures { OnOk result (line.new.items ≡ line.old.items ++ failed_line cycle site) }
+fn push_failed(line: &mut TextBuilder, cycle: u64, site: Place) -> Result<(), AllocError>
+    ensures { OnOk result (line.new ≡ line.old ++ failed_words cycle site) }
 {
-    line.extend_from_slice(b"failed ")?;
-    push_decimal(line, cycle)?;
-    line.extend_from_slice(b" ")?;
-    push_decimal(line, u64::from(site.decl))?;
-    line.extend_from_slice(b" ")?;
-    push_decimal(line, u64::from(site.tree))?;
-    line.extend_from_slice(b"\n")
+    line.push_text("failed")?;
+    line.push_decimal_part(cycle)?;
+    line.push_decimal_part(u64::from(site.decl))?;
+    line.push_decimal_part(u64::from(site.tree))
 }
 
 /// The word KIND of a fault line.

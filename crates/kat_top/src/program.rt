@@ -1,6 +1,7 @@
 //! The whole program as one call.
 
-ghost use Rattle.std.specs.Prelude.{◌≡◌, Some, None};
+ghost use Rattle.std.specs.Prelude.{◌≡◌, [], ◌∷◌, Some, not};
+ghost use Rattle.std.specs.List.{list_any};
 ghost use Rattle.kat_words.specs.declared.asked.Job.TheVariants as job;
 ghost use Rattle.kat_top.specs.Causes.{StatusesCome};
 ghost use Rattle.kat_top.specs.Complete.{IsComplete};
@@ -14,7 +15,7 @@ use crate::say::say_fault;
 use crate::status::Status;
 use kat_io::{Files, Sink};
 use kat_text::Text;
-use kat_words::{Job, WordsError, job};
+use kat_words::{Devices, Job, WordsError, job};
 use std::alloc::Global;
 
 /// The whole program: does the job of the words, reads the files that they name, writes the answer, and gives the
@@ -61,27 +62,64 @@ fn answered<F: Files, K: Sink>(
     }
 }
 
-/// Does a job; one that is not built yet is answered as words that ask for none.
+/// Does a job. One that is not built yet is answered as words that ask for none.
 fn do_job<F: Files, K: Sink>(alloc: Global, job: &Job, files: &mut F, out: &mut K) -> Status
     ensures { Answered (done_of (Some job.now)) (F.seen files.old) (F.seen files.new) result (K.seen out.old) (K.seen out.new) }
 {
     match job {
-        Job::Print { spec } if !is_reserved(spec) => print_file(alloc, spec, files, out),
+        Job::Print { spec } => do_print(alloc, spec, files, out),
         Job::Run {
             spec,
             image,
             cycles,
             calls,
             devices,
-        } if devices.as_slice().is_empty() && !is_reserved(spec) && !is_reserved(image) => {
-            run_files(alloc, spec, image, *cycles, *calls, files, out)
-        }
-        Job::Print { .. } | Job::Run { .. } => say_fault(alloc, out, &Fault::Usage),
+        } => do_run(alloc, spec, image, *cycles, *calls, devices, files, out),
         Job::Check { .. } => say_fault(alloc, out, &Fault::Usage),
         Job::Verify { .. } => say_fault(alloc, out, &Fault::Usage),
         Job::Replay { .. } => say_fault(alloc, out, &Fault::Usage),
         Job::Gen { .. } => say_fault(alloc, out, &Fault::Usage),
     }
+}
+
+/// `print SPEC`
+fn do_print<F: Files, K: Sink>(alloc: Global, spec: &Text, files: &mut F, out: &mut K) -> Status
+    ensures { Answered (done_of (Some (job.Print spec.now))) (F.seen files.old) (F.seen files.new) result (K.seen out.old) (K.seen out.new) }
+{
+    if is_reserved(spec) {
+        return say_fault(alloc, out, &Fault::Usage);
+    }
+    print_file(alloc, spec, files, out)
+}
+
+/// `run SPEC IMAGE --cycles N --calls N`; with devices it is not built yet.
+fn do_run<F: Files, K: Sink>(
+    alloc: Global,
+    spec: &Text,
+    image: &Text,
+    cycles: u64,
+    calls: u64,
+    devices: &Devices,
+    files: &mut F,
+    out: &mut K,
+) -> Status
+    ensures { Answered (done_of (Some (job.Run spec.now image.now cycles calls devices.now)))
+        (F.seen files.old) (F.seen files.new) result (K.seen out.old) (K.seen out.new) }
+{
+    if !devices.as_slice().is_empty() {
+        return say_fault(alloc, out, &Fault::Usage);
+    }
+    if !are_files(spec, image) {
+        return say_fault(alloc, out, &Fault::Usage);
+    }
+    run_files(alloc, spec, image, cycles, calls, files, out)
+}
+
+/// Whether neither name is kept for a text that comes with the program.
+fn are_files(spec: &Text, image: &Text) -> bool
+    ensures { result ≡ not (list_any is_reserved (spec.now ∷ image.now ∷ [])) }
+{
+    !is_reserved(spec) && !is_reserved(image)
 }
 
 /// Whether a name is kept for a text that comes with the program.

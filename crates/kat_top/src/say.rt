@@ -28,7 +28,7 @@ pub fn say_fault<K: Sink>(alloc: Global, out: &mut K, fault: &Fault) -> Status
     ensures { Gives (answer_of_fault fault.now) result (K.seen out.old) (K.seen out.new) }
 {
     match fault_text(alloc, fault) {
-        Ok(line) => say(out, line.as_slice(), Status::of_fault(fault)),
+        Ok(line) => say(out, line.as_bytes(), Status::of_fault(fault)),
         Err(_) => Status::Memory,
     }
 }
