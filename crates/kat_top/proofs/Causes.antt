@@ -1,4 +1,5 @@
--- A fault comes only where its count rose, what files tell stays, and the reads are those of the first inputs.
+-- A fault comes only where its count rose, what files tell stays, and the reads are those of the
+-- first inputs.
 use Rattle.std.proofs.Common.{◌≡◌, ℕ, suc, ◌≤◌, inl, inr, List, [], ◌∷◌, ◌++◌, map, take, Option, Ok, Err, refl, ap, sym, subst, ◌∙◌, append_assoc, arith}
 use Rattle.std.proofs.lemmas.List.{append-nil}
 use Rattle.kat_io.specs.Counts.{Rose}

@@ -1,16 +1,15 @@
 -- What a job does with its inputs is one answer, whose status is none of a file.
-use Rattle.std.proofs.Common.{◌≡◌, inl, inr, List, [], ◌∷◌, Option, None, Some, refl, ap, sym, subst, ◌∙◌, replicate}
+use Rattle.std.proofs.Common.{◌≡◌, inl, inr, List, [], ◌∷◌, Option, None, Some, refl, ap, sym, subst, ◌∙◌}
 use Rattle.kat_ast.specs.Spec.{Spec}
-use Rattle.kat_ast.specs.Describes.{canonical_text}
 use Rattle.kat_syntax.specs.Machine.{MachineState}
-use Rattle.kat_syntax.specs.Run.{Cycle, RunEnd, Ended, OutIn, FailedIn, run_of}
+use Rattle.kat_syntax.specs.Run.{RunEnd, Ended, OutIn, FailedIn}
 use Rattle.kat_words.specs.declared.asked.Job.{Job}
 use Rattle.kat_words.specs.declared.asked.Job.TheVariants.{Check, Print, Verify, Replay, Run, Gen}
 use Rattle.kat_top.specs.declared.status.Status.{Status}
 use Rattle.kat_top.specs.declared.status.Status.TheVariants as status
 use Rattle.kat_top.specs.Answers.{Answer}
 use Rattle.kat_top.specs.Inputs.{Thing, TheSpec, TheMachine, TheState}
-use Rattle.kat_top.specs.Jobs.{Does, run_answer, status_of_end}
+use Rattle.kat_top.specs.Jobs.{Does, print_answer, answer_of_run, status_of_end}
 
 -- one answer
 pub one_doing : (job : Option Job) (taken : List Thing) (a b : Answer) → Does job taken a → Does job taken b → a ≡ b
@@ -18,14 +17,14 @@ one_doing None taken a b x y = x ∙ sym y
 one_doing (Some (Check file)) taken a b x y = absurd x
 one_doing (Some (Print name)) taken a b (s, f, x) (t, g, y) =
     let e : s ≡ t = cc in
-    x ∙ ap (λ (spec : Spec). let r : Answer = record { status = status.Ok; text = canonical_text spec } in r) e ∙ sym y
+    x ∙ ap print_answer e ∙ sym y
 one_doing (Some (Verify file)) taken a b x y = absurd x
 one_doing (Some (Replay file report)) taken a b x y = absurd x
 one_doing (Some (Run name image cycles calls devices)) taken a b (m, s, f, x) (n, t, g, y) =
     let e : m ≡ n = cc in
     let d : s ≡ t = cc in
-    x ∙ ap (λ (machine : Spec). run_answer machine (run_of machine calls s (replicate cycles Cycle))) e
-    ∙ ap (λ (start : MachineState). run_answer n (run_of n calls start (replicate cycles Cycle))) d ∙ sym y
+    x ∙ ap (λ (machine : Spec). answer_of_run machine s cycles calls) e
+    ∙ ap (λ (start : MachineState). answer_of_run n start cycles calls) d ∙ sym y
 one_doing (Some (Gen number)) taken a b x y = absurd x
 
 -- the statuses of what jobs do

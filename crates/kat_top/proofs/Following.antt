@@ -1,4 +1,5 @@
--- A call goes the way of the judging: it comes to each point that the judging comes to, or something outside failed.
+-- A call goes the way of the judging: it comes to each point that the judging comes to, or
+-- something outside failed.
 use Rattle.std.proofs.Common.{◌≡◌, ◌≤◌, ◌⊎◌, inl, inr, List, [], ◌∷◌, ◌++◌, Option, refl, sym, subst, ◌∙◌, arith}
 use Rattle.kat_io.specs.Seen.{FilesSeen}
 use Rattle.kat_words.specs.declared.asked.Job.{Job}

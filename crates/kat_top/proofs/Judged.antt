@@ -1,4 +1,5 @@
--- What bytes are read as is one thing, the fault with which they are refused is one, and they are not both.
+-- What bytes are read as is one thing, the fault with which they are refused is one, and they are
+-- not both.
 use Rattle.std.proofs.Common.{◌≡◌, ℕ, inl, inr, List, Option, Some, Ok, Err, refl, ap, sym, subst, ◌∙◌}
 use Rattle.kat_tree.specs.declared.error.TreeError.{TreeError}
 use Rattle.kat_tree.specs.declared.error.TreeError.TheVariants as error

@@ -1,4 +1,5 @@
--- What came of an input whose bytes are told: it was taken or refused by them, or something outside failed.
+-- What came of an input whose bytes are told: it was taken or refused by them, or something outside
+-- failed.
 use Rattle.std.proofs.Common.{◌≡◌, ℕ, ◌≤◌, ◌<◌, ◌⊎◌, inl, inr, List, length, Option, None, Some, Ok, Err, refl, ap, sym, subst, ◌∙◌, arith}
 use Rattle.std.specs.Prelude.{IsSome, IfSome}
 use Rattle.kat_io.specs.Counts.{Rose}

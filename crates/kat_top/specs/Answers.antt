@@ -51,8 +51,8 @@ pub record IsWhole (answer : Answer) (given : Status) (old new : SinkSeen) : Typ
   pub status_is : given ≡ answer.status
   pub text_is : new.contents ≡ with_bytes old.contents answer.text
 
--- an answer was given: whatever happened, a prefix of its text was written; it was given whole, unless a write failed or
--- memory ran out; and a write failed only where the count of that rose
+-- an answer was given: whatever happened, a prefix of its text was written; it was given whole,
+-- unless a write failed or memory ran out; and a write failed only where the count of that rose
 pub record Gives (answer : Answer) (given : Status) (old new : SinkSeen) : Type 0 where
   pub prefix : Grew old.contents new.contents answer.text
   pub whole : IfPlain given (IsWhole answer given old new)

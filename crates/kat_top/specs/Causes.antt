@@ -15,11 +15,12 @@ IsFromOutside status.WriteFault = Unit {0}
 IsFromOutside status.Memory = Unit {0}
 IsFromOutside _ = ⊥
 
--- a status comes wherever it has its cause, unless something outside fails, and where the files tell their bytes it comes
--- only with what it shows
-pub record ComesExactly (told : Type 0) (status given : Status) (cause shown : Type 0) : Type 0 where
-  pub comes : cause → (given ≡ status) ⊎ IsFromOutside given
-  pub only : told → given ≡ status → shown
+-- a status comes wherever it has its cause, unless something outside fails, and where the files
+-- tell their bytes it comes only with what it shows
+pub record ComesExactly (told : Type 0) (wanted given : Status) (cause shown : Type 0) :
+    Type 0 where
+  pub comes : cause → (given ≡ wanted) ⊎ IsFromOutside given
+  pub only : told → given ≡ wanted → shown
 
 -- the files of a job tell their bytes, as far as they are asked for
 abbrev pub Tells : Option Job → Told → Type 0
@@ -32,12 +33,14 @@ UsageComes job given = ComesExactly ⊤ status.Usage given (job ≡ None) (job �
 -- a file that is asked for has more bytes than are read
 abbrev pub LongComes : Option Job → Told → Status → Type 0
 LongComes job told given =
-    ComesExactly (Tells job told) status.TooLong given (HasLong told (inputs_of job)) (HasLong told (inputs_of job))
+    let long = HasLong told (inputs_of job) in
+    ComesExactly (Tells job told) status.TooLong given long long
 
 -- the bytes of a file that is asked for are read as nothing that the job can treat
 abbrev pub FormComes : Option Job → Told → Status → Type 0
 FormComes job told given =
-    ComesExactly (Tells job told) status.Form given (HasNothing told (inputs_of job)) (HasNothing told (inputs_of job))
+    let nothing = HasNothing told (inputs_of job) in
+    ComesExactly (Tells job told) status.Form given nothing nothing
 
 -- all files are taken, and this is what the job answers then
 abbrev pub IsDone : Option Job → Told → Answer → Type 0
@@ -49,15 +52,18 @@ DoneWith given job told = (answer : Answer) × IsDone job told answer × (answer
 
 -- the same, and it was given whole
 abbrev pub DoneWhole : Option Job → Told → Status → SinkSeen → SinkSeen → Type 0
-DoneWhole job told given old new = (answer : Answer) × IsDone job told answer × IsWhole answer given old new
+DoneWhole job told given old new =
+    (answer : Answer) × IsDone job told answer × IsWhole answer given old new
 
 -- the status of what a job did; it shows that the whole text was written
 abbrev pub DoneComes : Status → Option Job → Told → Status → SinkSeen → SinkSeen → Type 0
 DoneComes wanted job told given old new =
-    ComesExactly (Tells job told) wanted given (DoneWith wanted job told) (DoneWhole job told given old new)
+    ComesExactly (Tells job told) wanted given
+      (DoneWith wanted job told) (DoneWhole job told given old new)
 
 -- each status comes exactly where it has its cause
-pub record StatusesCome (job : Option Job) (told : Told) (given : Status) (old new : SinkSeen) : Type 0 where
+pub record StatusesCome (job : Option Job) (told : Told) (given : Status) (old new : SinkSeen) :
+    Type 0 where
   pub usage : UsageComes job given
   pub long : LongComes job told given
   pub form : FormComes job told given

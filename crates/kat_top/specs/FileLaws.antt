@@ -10,11 +10,16 @@ use Rattle.kat_forms.specs.declared.misfit.Misfit.{Misfit}
 use Rattle.kat_forms.specs.Reading.{IsFirstMisfit}
 use Rattle.kat_image.specs.Image.{IsImageOf}
 
--- bytes are of one tree or have one fault, they stand for one specification, whose tree has no misfit, a tree has one
--- first misfit, and bytes are an image of one state
+-- bytes are of one tree or have one fault, they stand for one specification, whose tree has no
+-- misfit, a tree has one first misfit, and bytes are an image of one state
 pub record FileLaws : Type 0 where
-  pub one_outcome : (bytes : List ℕ) (first second : Result Tree TreeError) → Owes bytes first → Owes bytes second → first ≡ second
-  pub one_spec : (bytes : List ℕ) (first second : Spec) → Reads bytes first → Reads bytes second → first ≡ second
-  pub no_misfit : (tree : Tree) (spec : Spec) (misfit : Misfit) → Describes tree spec → IsFirstMisfit tree misfit → ⊥
-  pub one_misfit : (tree : Tree) (first second : Misfit) → IsFirstMisfit tree first → IsFirstMisfit tree second → first ≡ second
-  pub one_state : (spec : Spec) (bytes : List ℕ) (first second : MachineState) → IsImageOf spec bytes first → IsImageOf spec bytes second → first ≡ second
+  pub one_outcome : (bytes : List ℕ) (first second : Result Tree TreeError) →
+      Owes bytes first → Owes bytes second → first ≡ second
+  pub one_spec : (bytes : List ℕ) (first second : Spec) →
+      Reads bytes first → Reads bytes second → first ≡ second
+  pub no_misfit : (tree : Tree) (spec : Spec) (misfit : Misfit) →
+      Describes tree spec → IsFirstMisfit tree misfit → ⊥
+  pub one_misfit : (tree : Tree) (first second : Misfit) →
+      IsFirstMisfit tree first → IsFirstMisfit tree second → first ≡ second
+  pub one_state : (spec : Spec) (bytes : List ℕ) (first second : MachineState) →
+      IsImageOf spec bytes first → IsImageOf spec bytes second → first ≡ second

@@ -25,7 +25,8 @@ Name = List ℕ
 abbrev pub most_bytes : ℕ
 most_bytes = 4194304
 
--- what a file is to be: a specification, a machine that can be run, or an image of the machine before it
+-- what a file is to be: a specification, a machine that can be run, or an image of the machine
+-- before it
 pub data Kind : Type 0 where
   ASpec : Kind
   AMachine : Kind
@@ -56,10 +57,11 @@ pub record IsMachine (bytes : List ℕ) (machine : Spec) : Type 0 where
 -- what bytes are read as, behind what was read before them: a line for each kind
 abbrev pub IsReadAs : List Thing → Kind → List ℕ → Thing → Type 0
 IsReadAs earlier ASpec bytes thing = (spec : Spec) × (thing ≡ TheSpec spec) × Reads bytes spec
-IsReadAs earlier AMachine bytes thing = (machine : Spec) × (thing ≡ TheMachine machine) × IsMachine bytes machine
+IsReadAs earlier AMachine bytes thing =
+    (machine : Spec) × (thing ≡ TheMachine machine) × IsMachine bytes machine
 IsReadAs earlier AnImage bytes thing =
-    (machine : Spec) × (state : MachineState) × (machine_of earlier ≡ Some machine) × (thing ≡ TheState state)
-    × IsImageOf machine bytes state
+    (machine : Spec) × (state : MachineState) × (machine_of earlier ≡ Some machine)
+    × (thing ≡ TheState state) × IsImageOf machine bytes state
 
 -- the error of a text that is no tree
 abbrev pub tree_error : TreeKind → ℕ → TreeError
@@ -102,5 +104,6 @@ pub record IsNoImage (earlier : List Thing) (bytes : List ℕ) (said : Fault) : 
 -- the fault with which bytes are refused, behind what was read before them: a line for each kind
 abbrev pub IsRefusedAs : List Thing → Kind → List ℕ → Fault → Type 0
 IsRefusedAs earlier ASpec bytes said = IsNoTree bytes said ⊎ IsNoSpec bytes said
-IsRefusedAs earlier AMachine bytes said = IsNotBuilt bytes said ⊎ (IsNoTree bytes said ⊎ IsNoSpec bytes said)
+IsRefusedAs earlier AMachine bytes said =
+    IsNotBuilt bytes said ⊎ (IsNoTree bytes said ⊎ IsNoSpec bytes said)
 IsRefusedAs earlier AnImage bytes said = IsNoImage earlier bytes said

@@ -28,9 +28,18 @@ status_of_end Ended = status.Ok
 status_of_end (OutIn cycle) = status.Out
 status_of_end (FailedIn cycle place) = status.Failed
 
+-- the canonical text of a specification
+abbrev pub print_answer : Spec → Answer
+print_answer spec = record { status = status.Ok; text = canonical_text spec }
+
 -- a run's text, with the status of its end
 abbrev pub run_answer : Spec → MachineRun → Answer
 run_answer machine run = record { status = status_of_end run.end; text = state_text_of machine run }
+
+-- the text of so many cycles of a machine from a state, each with so many calls
+abbrev pub answer_of_run : Spec → MachineState → ℕ → ℕ → Answer
+answer_of_run machine start cycles calls =
+    run_answer machine (run_of machine calls start (replicate cycles Cycle))
 
 -- whether the program does a job already: a line for each job that it does
 abbrev pub is_built : Job → Bool
@@ -41,17 +50,19 @@ is_built _ = false
 -- what a job asks for, in the order in which it is judged; nothing where the words ask for no job
 abbrev pub inputs_of : Option Job → List Input
 inputs_of (Some (Print spec)) = input ASpec spec ∷ []
-inputs_of (Some (Run spec image cycles calls devices)) = input AMachine spec ∷ input AnImage image ∷ []
+inputs_of (Some (Run spec image cycles calls devices)) =
+    input AMachine spec ∷ input AnImage image ∷ []
 inputs_of _ = []
 
--- what a job answers, whose inputs were taken as these. It is a relation, and a job may end in many ways
+-- what a job answers, whose inputs were taken as these. It is a relation, and a job may end in many
+-- ways
 abbrev pub Does : Option Job → List Thing → Answer → Type 0
 Does None taken answer = answer ≡ answer_of_fault fault.Usage
 Does (Some (Print name)) taken answer =
-    (spec : Spec) × (taken ≡ TheSpec spec ∷ []) × (answer ≡ record { status = status.Ok; text = canonical_text spec })
+    (spec : Spec) × (taken ≡ TheSpec spec ∷ []) × (answer ≡ print_answer spec)
 Does (Some (Run name image cycles calls devices)) taken answer =
     (machine : Spec) × (start : MachineState) × (taken ≡ TheMachine machine ∷ TheState start ∷ [])
-    × (answer ≡ run_answer machine (run_of machine calls start (replicate cycles Cycle)))
+    × (answer ≡ answer_of_run machine start cycles calls)
 Does _ taken answer = ⊥
 
 -- a name with `@` in front is that of a text that comes with the program, of which there is none
@@ -63,7 +74,8 @@ is_reserved (byte ∷ rest) = byte == 64
 abbrev pub done_of : Option Job → Option Job
 done_of None = None
 done_of (Some job) =
-    if is_built job && not (list_any is_reserved (names_of (inputs_of (Some job)))) then Some job else None
+    let names = names_of (inputs_of (Some job)) in
+    if is_built job && not (list_any is_reserved names) then Some job else None
 
 -- the job that these words ask for; none where they ask for none that the program does
 abbrev pub asked : List (String Global) → Option Job

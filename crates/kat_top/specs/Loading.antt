@@ -18,7 +18,8 @@ use Rattle.kat_top.specs.Inputs.{Name, Kind, Input, Thing, IsReadAs, IsRefusedAs
 abbrev pub read_of : Name → Name × ℕ
 read_of name = (name, most_bytes)
 
--- these bytes were read: they are at most as many as are read, and those that are told, where these are told
+-- these bytes were read: they are at most as many as are read, and those that are told, where these
+-- are told
 pub record WereRead (told : Option (List ℕ)) (bytes : List ℕ) : Type 0 where
   pub few : length bytes ≤ most_bytes
   pub as_told : IfSome told (λ t. bytes ≡ t)
@@ -35,13 +36,15 @@ pub record WasTooLong (name : Name) (said : Fault) (before after : FilesSeen) : 
   pub many : IfSome (before.told name) (λ bytes. most_bytes < length bytes)
 
 -- bytes were read, and refused with this fault
-pub record WereRefused (earlier : List Thing) (input : Input) (said : Fault) (before : FilesSeen) : Type 0 where
+pub record WereRefused (earlier : List Thing) (input : Input) (said : Fault) (before : FilesSeen) :
+    Type 0 where
   pub bytes : List ℕ
   pub were_read : WereRead (before.told input.name) bytes
   pub refuses : IsRefusedAs earlier input.kind bytes said
 
 -- bytes were read as this
-pub record WereTaken (earlier : List Thing) (input : Input) (thing : Thing) (before : FilesSeen) : Type 0 where
+pub record WereTaken (earlier : List Thing) (input : Input) (thing : Thing) (before : FilesSeen) :
+    Type 0 where
   pub bytes : List ℕ
   pub were_read : WereRead (before.told input.name) bytes
   pub reads : IsReadAs earlier input.kind bytes thing
@@ -50,16 +53,20 @@ pub record WereTaken (earlier : List Thing) (input : Input) (thing : Thing) (bef
 abbrev pub Came : List Thing → Input → Result Thing InputError → FilesSeen → FilesSeen → Type 0
 Came earlier input (Ok thing) before after = WereTaken earlier input thing before
 Came earlier input (Err (why.Fault said)) before after =
-    FailedToRead input.name said before after ⊎ (WasTooLong input.name said before after ⊎ WereRefused earlier input said before)
+    FailedToRead input.name said before after
+    ⊎ (WasTooLong input.name said before after ⊎ WereRefused earlier input said before)
 Came earlier input (Err why.Memory) before after = Unit {0}
 
 -- the read was noted; where memory ran out it may not have been
-abbrev pub IsNotedFor : {T : Type 0} → Result T InputError → List (Name × ℕ) → List (Name × ℕ) → Name → Type 0
+abbrev pub IsNotedFor :
+    {T : Type 0} → Result T InputError → List (Name × ℕ) → List (Name × ℕ) → Name → Type 0
 IsNotedFor (Err why.Memory) old new name = (new ≡ old) ⊎ (new ≡ old ++ read_of name ∷ [])
 IsNotedFor outcome old new name = new ≡ old ++ read_of name ∷ []
 
 -- an input was asked for, by one read, and this came of it
-pub record Loads (earlier : List Thing) (input : Input) (outcome : Result Thing InputError) (before after : FilesSeen) : Type 0 where
+pub record Loads
+    (earlier : List Thing) (input : Input) (outcome : Result Thing InputError)
+    (before after : FilesSeen) : Type 0 where
   pub kept : Kept before after
   pub noted : IsNotedFor outcome before.reads after.reads input.name
   pub came : Came earlier input outcome before after
@@ -71,7 +78,8 @@ outcome_of thing (Err error) = Err error
 
 -- why the bytes of a file were not had
 abbrev pub IsUnread : Name → InputError → FilesSeen → FilesSeen → Type 0
-IsUnread name (why.Fault said) before after = FailedToRead name said before after ⊎ WasTooLong name said before after
+IsUnread name (why.Fault said) before after =
+    FailedToRead name said before after ⊎ WasTooLong name said before after
 IsUnread name why.Memory before after = Unit {0}
 
 -- what came of the bytes of a file
@@ -80,12 +88,14 @@ HasBytes name (Ok bytes) before after = WereRead (before.told name) bytes
 HasBytes name (Err error) before after = IsUnread name error before after
 
 -- the bytes of a file were asked for, by one read, and this came of it
-pub record LoadsBytes (name : Name) (outcome : Result (List ℕ) InputError) (before after : FilesSeen) : Type 0 where
+pub record LoadsBytes
+    (name : Name) (outcome : Result (List ℕ) InputError) (before after : FilesSeen) : Type 0 where
   pub kept : Kept before after
   pub noted : IsNotedFor outcome before.reads after.reads name
   pub came : HasBytes name outcome before after
 
--- what came of the bytes of an input: what they are read as; the fault with which they are refused; or memory ran out
+-- what came of the bytes of an input: what they are read as; the fault with which they are refused;
+-- or memory ran out
 abbrev pub ComesOf : List Thing → Kind → List ℕ → Result Thing InputError → Type 0
 ComesOf earlier kind bytes (Ok thing) = IsReadAs earlier kind bytes thing
 ComesOf earlier kind bytes (Err (why.Fault said)) = IsRefusedAs earlier kind bytes said

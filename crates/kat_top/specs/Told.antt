@@ -7,8 +7,8 @@ use Rattle.kat_syntax.specs.StateText.{state_text_of}
 use Rattle.kat_image.specs.Image.{IsImageOf}
 use Rattle.kat_top.specs.Inputs.{IsMachine}
 
--- a run of a machine that some bytes stand for, from a state that some bytes are an image of: of so many cycles, at most as many as words may
--- ask for, each with so many calls
+-- a run of a machine that some bytes stand for, from a state that some bytes are an image of: of so
+-- many cycles, at most as many as words may ask for, each with so many calls
 pub record IsToldRun (spec : Spec) (run : Run) : Type 0 where
   pub text : List ℕ
   pub image : List ℕ
@@ -22,10 +22,14 @@ pub record IsToldRun (spec : Spec) (run : Run) : Type 0 where
 
 -- two such runs of one machine that print the same text are the same run
 abbrev pub TextTellsToldRun : Type 0
-TextTellsToldRun = (spec : Spec) (first second : Run) → IsToldRun spec first → IsToldRun spec second → state_text_of spec first ≡ state_text_of spec second → first ≡ second
+TextTellsToldRun =
+    (spec : Spec) (first second : Run) → IsToldRun spec first → IsToldRun spec second →
+    state_text_of spec first ≡ state_text_of spec second → first ≡ second
 
 -- where the texts of two such runs begin one text, they are the same run, and so is what follows
 abbrev pub BeginningTellsToldRun : Type 0
 BeginningTellsToldRun =
-    (spec : Spec) (first second : Run) (more other : List ℕ) → IsToldRun spec first → IsToldRun spec second →
-    state_text_of spec first ++ more ≡ state_text_of spec second ++ other → (first ≡ second) × (more ≡ other)
+    (spec : Spec) (first second : Run) (more other : List ℕ) →
+    IsToldRun spec first → IsToldRun spec second →
+    state_text_of spec first ++ more ≡ state_text_of spec second ++ other →
+    (first ≡ second) × (more ≡ other)

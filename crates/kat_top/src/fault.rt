@@ -43,7 +43,8 @@ pub enum Fault {
         kind: TreeKind,
         offset: u64,
     },
-    /// A tree is no specification: the first tree, in preorder, that fits no form, and what is wanted there.
+    /// A tree is no specification: the first tree, in preorder, that fits no form, and what is
+    /// wanted there.
     Form {
         place: u64,
         wanted: Wanted,

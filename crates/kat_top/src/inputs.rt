@@ -1,4 +1,5 @@
-//! The inputs of a job: each is asked for by one read, and then judged by its bytes and by what was read before it.
+//! The inputs of a job: each is asked for by one read, and then judged by its bytes and by what was
+//! read before it.
 
 ghost use Rattle.std.specs.Prelude.{◌≡◌, ◌≤◌, ◌+◌, length, List, Some};
 ghost use Rattle.kat_top.specs.declared.fault.Fault.TheVariants as fault;
@@ -32,7 +33,8 @@ pub enum InputError {
 /// The specification that a file stands for.
 pub fn load_spec<F: Files>(alloc: Global, files: &mut F, name: &str) -> Result<Spec, InputError>
     ensures { (earlier : List Thing) →
-        Loads earlier (input ASpec name.now) (outcome_of TheSpec result) (F.seen files.old) (F.seen files.new) }
+        Loads earlier (input ASpec name.now) (outcome_of TheSpec result)
+            (F.seen files.old) (F.seen files.new) }
 {
     match load(alloc, files, name) {
         Ok(bytes) => spec_of(alloc, bytes.as_slice()),
@@ -41,9 +43,14 @@ pub fn load_spec<F: Files>(alloc: Global, files: &mut F, name: &str) -> Result<S
 }
 
 /// The machine that a file stands for.
-pub fn load_machine<F: Files>(alloc: Global, files: &mut F, name: &str) -> Result<Checked, InputError>
+pub fn load_machine<F: Files>(
+    alloc: Global,
+    files: &mut F,
+    name: &str,
+) -> Result<Checked, InputError>
     ensures { (earlier : List Thing) →
-        Loads earlier (input AMachine name.now) (outcome_of TheMachine result) (F.seen files.old) (F.seen files.new) }
+        Loads earlier (input AMachine name.now) (outcome_of TheMachine result)
+            (F.seen files.old) (F.seen files.new) }
 {
     match load(alloc, files, name) {
         Ok(bytes) => machine_of(alloc, bytes.as_slice()),
@@ -59,7 +66,8 @@ pub fn load_image<F: Files>(
     machine: &Checked,
 ) -> Result<State, InputError>
     ensures { (earlier : List Thing) → machine_of earlier ≡ Some machine.now →
-        Loads earlier (input AnImage name.now) (outcome_of TheState result) (F.seen files.old) (F.seen files.new) }
+        Loads earlier (input AnImage name.now) (outcome_of TheState result)
+            (F.seen files.old) (F.seen files.new) }
 {
     match load(alloc, files, name) {
         Ok(bytes) => start_of(alloc, bytes.as_slice(), machine),
@@ -122,7 +130,8 @@ fn spec_of(alloc: Global, text: &[u8]) -> Result<Spec, InputError>
 /// What a text is read as that is to be a machine.
 fn machine_of(alloc: Global, text: &[u8]) -> Result<Checked, InputError>
     requires { length text.now ≤ most_bytes }
-    ensures { (earlier : List Thing) → ComesOf earlier AMachine text.now (outcome_of TheMachine result) }
+    ensures { (earlier : List Thing) →
+        ComesOf earlier AMachine text.now (outcome_of TheMachine result) }
 {
     match spec_of(alloc, text) {
         Ok(spec) => match is_first_form(alloc, &spec) {

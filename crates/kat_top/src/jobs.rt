@@ -1,11 +1,10 @@
 //! What each job does: it asks for its inputs in turn, and answers with what they were taken as.
 
-ghost use Rattle.std.specs.Prelude.{ℕ, List, Some, replicate};
-ghost use Rattle.kat_syntax.specs.Run.{Cycle, run_of};
+ghost use Rattle.std.specs.Prelude.{ℕ, List, Some};
 ghost use Rattle.kat_words.specs.declared.asked.Job.TheVariants as job;
 ghost use Rattle.kat_top.specs.Answers.{Gives};
 ghost use Rattle.kat_top.specs.Given.{Answered};
-ghost use Rattle.kat_top.specs.Jobs.{run_answer};
+ghost use Rattle.kat_top.specs.Jobs.{answer_of_run};
 
 use crate::fault::Fault;
 use crate::inputs::{load_image, load_machine, load_spec};
@@ -25,7 +24,8 @@ pub fn print_file<F: Files, K: Sink>(
     files: &mut F,
     out: &mut K,
 ) -> Status
-    ensures { Answered (Some (job.Print spec.now)) (F.seen files.old) (F.seen files.new) result (K.seen out.old) (K.seen out.new) }
+    ensures { Answered (Some (job.Print spec.now)) (F.seen files.old) (F.seen files.new)
+        result (K.seen out.old) (K.seen out.new) }
 {
     match load_spec(alloc, files, spec.as_str()) {
         Ok(found) => say_canonical(alloc, out, &found),
@@ -33,7 +33,8 @@ pub fn print_file<F: Files, K: Sink>(
     }
 }
 
-/// `run SPEC IMAGE --cycles N --calls N`: the states of a machine that starts from an image. Devices are none yet.
+/// `run SPEC IMAGE --cycles N --calls N`: the states of a machine that starts from an image.
+/// Devices are none yet.
 pub fn run_files<F: Files, K: Sink>(
     alloc: Global,
     spec: &Text,
@@ -64,7 +65,8 @@ fn run_from<K: Sink>(
     calls: u64,
     out: &mut K,
 ) -> Status
-    ensures { Gives (run_answer machine.now (run_of machine.now calls start (replicate cycles Cycle))) result (K.seen out.old) (K.seen out.new) }
+    ensures { Gives (answer_of_run machine.now start cycles calls)
+        result (K.seen out.old) (K.seen out.new) }
 {
     match run(alloc, machine, start, cycles, calls, out) {
         RunEnd::Ended => Status::Ok,

@@ -26,15 +26,17 @@ pub(crate) fn file_laws()
 
 /// A job whose files tell their bytes has at most one answer: one status and one text.
 pub fn one_answer()
-    ensures { (job : Option Job) (told : Told) (a b : Answer) → IsOwed job told a → IsOwed job told b → a ≡ b }
+    ensures { (job : Option Job) (told : Told) (a b : Answer) →
+        IsOwed job told a → IsOwed job told b → a ≡ b }
 {
     file_laws();
 }
 
-/// What `run` prints tells the run: two runs of one machine that print the same text have the same boundary states and the
-/// same end, whatever the images, cycles and calls. And where one text begins with the texts of two such runs, they are
-/// the same, so that an output that was cut off is the output of no run of that machine. The machine and the images are
-/// what bytes stand for; nothing is supposed of the states.
+/// What `run` prints tells the run: two runs of one machine that print the same text have the same
+/// boundary states and the same end, whatever the images, cycles and calls. And where one text
+/// begins with the texts of two such runs, they are the same, so that an output that was cut off is
+/// the output of no run of that machine. The machine and the images are what bytes stand for;
+/// nothing is supposed of the states.
 pub fn text_tells_told_run()
     ensures whole { TextTellsToldRun }
     ensures beginning { BeginningTellsToldRun }

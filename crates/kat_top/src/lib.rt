@@ -1,6 +1,7 @@
-//! The whole program behind one call: from the words and the bytes of the files to the bytes that are written and
-//! the status. A job is a list of inputs, judged in order, and what is done with them (`specs/Jobs`); `inputs` loads
-//! them, `jobs` does what is done, `say` writes it, and `fault` has the line of each fault.
+//! The whole program behind one call: from the words and the bytes of the files to the bytes that
+//! are written and the status. A job is a list of inputs, judged in order, and what is done with
+//! them (`specs/Jobs`); `inputs` loads them, `jobs` does what is done, `say` writes it, and `fault`
+//! has the line of each fault.
 #![tactic(auto)]
 
 mod fault;

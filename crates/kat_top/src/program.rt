@@ -18,28 +18,34 @@ use kat_text::Text;
 use kat_words::{Devices, Job, WordsError, job};
 use std::alloc::Global;
 
-/// The whole program: does the job of the words, reads the files that they name, writes the answer, and gives the
-/// status with which the program ends.
+/// The whole program: does the job of the words, reads the files that they name, writes the answer,
+/// and gives the status with which the program ends.
 pub fn top<F: Files, K: Sink>(alloc: Global, words: &[String], files: &mut F, out: &mut K) -> Status
-    // What was given is the answer to the words, for what the bytes of the files were read as: the files are asked for
-    // in turn, each judged before the next; and with every status a prefix of its text was written.
-    ensures answer { Answered (asked words.now) (F.seen files.old) (F.seen files.new) result (K.seen out.old) (K.seen out.new) }
+    // What was given is the answer to the words, for what the bytes of the files were read as: the
+    // files are asked for in turn, each judged before the next; and with every status a prefix of
+    // its text was written.
+    ensures answer { Answered (asked words.now) (F.seen files.old) (F.seen files.new)
+        result (K.seen out.old) (K.seen out.new) }
 
-    // Where the files tell their bytes and no count of faults rose, the answer that they owe is given whole, or memory
-    // ran out.
-    ensures complete { IsComplete (asked words.now) (F.seen files.old) (F.seen files.new) result (K.seen out.old) (K.seen out.new) }
+    // Where the files tell their bytes and no count of faults rose, the answer that they owe is
+    // given whole, or memory ran out.
+    ensures complete { IsComplete (asked words.now) (F.seen files.old) (F.seen files.new)
+        result (K.seen out.old) (K.seen out.new) }
 
     // Each status comes wherever it has its cause, unless something outside fails, and only there.
-    ensures statuses { StatusesCome (asked words.now) (F.seen files.old).told result (K.seen out.old) (K.seen out.new) }
+    ensures statuses { StatusesCome (asked words.now) (F.seen files.old).told
+        result (K.seen out.old) (K.seen out.new) }
 
-    // A fault of reading or writing and a file that is too long come only where the count of that rose.
-    ensures causes { HasCauses result (F.seen files.old) (F.seen files.new) (K.seen out.old) (K.seen out.new) }
+    // A fault of reading or writing and a file that is too long come only where the count of that
+    // rose.
+    ensures causes { HasCauses result (F.seen files.old) (F.seen files.new)
+        (K.seen out.old) (K.seen out.new) }
 
     // What the files tell stays, and no count falls.
     ensures kept { Keeps (F.seen files.old) (F.seen files.new) (K.seen out.old) (K.seen out.new) }
 
-    // The reads that were added are those of the first files that the words name, in order, each with the limit; of all
-    // that are asked for, where the files tell their bytes.
+    // The reads that were added are those of the first files that the words name, in order, each
+    // with the limit; of all that are asked for, where the files tell their bytes.
     ensures reads { ReadsMade (asked words.now) (F.seen files.old) (F.seen files.new) result }
 {
     file_laws();
@@ -53,7 +59,8 @@ fn answered<F: Files, K: Sink>(
     files: &mut F,
     out: &mut K,
 ) -> Status
-    ensures { Answered (asked words.now) (F.seen files.old) (F.seen files.new) result (K.seen out.old) (K.seen out.new) }
+    ensures { Answered (asked words.now) (F.seen files.old) (F.seen files.new)
+        result (K.seen out.old) (K.seen out.new) }
 {
     match job(alloc, words) {
         Ok(job) => do_job(alloc, &job, files, out),
@@ -64,7 +71,8 @@ fn answered<F: Files, K: Sink>(
 
 /// Does a job. One that is not built yet is answered as words that ask for none.
 fn do_job<F: Files, K: Sink>(alloc: Global, job: &Job, files: &mut F, out: &mut K) -> Status
-    ensures { Answered (done_of (Some job.now)) (F.seen files.old) (F.seen files.new) result (K.seen out.old) (K.seen out.new) }
+    ensures { Answered (done_of (Some job.now)) (F.seen files.old) (F.seen files.new)
+        result (K.seen out.old) (K.seen out.new) }
 {
     match job {
         Job::Print { spec } => do_print(alloc, spec, files, out),
@@ -84,7 +92,8 @@ fn do_job<F: Files, K: Sink>(alloc: Global, job: &Job, files: &mut F, out: &mut 
 
 /// `print SPEC`
 fn do_print<F: Files, K: Sink>(alloc: Global, spec: &Text, files: &mut F, out: &mut K) -> Status
-    ensures { Answered (done_of (Some (job.Print spec.now))) (F.seen files.old) (F.seen files.new) result (K.seen out.old) (K.seen out.new) }
+    ensures { Answered (done_of (Some (job.Print spec.now))) (F.seen files.old) (F.seen files.new)
+        result (K.seen out.old) (K.seen out.new) }
 {
     if is_reserved(spec) {
         return say_fault(alloc, out, &Fault::Usage);

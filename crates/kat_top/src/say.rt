@@ -1,9 +1,8 @@
 //! What is written: a text with its status.
 
 ghost use Rattle.std.specs.Prelude.{◌≡◌};
-ghost use Rattle.kat_ast.specs.Describes.{canonical_text};
 ghost use Rattle.kat_top.specs.Answers.{Gives, IsPlain, answer_of_error, answer_of_fault};
-ghost use Rattle.kat_top.specs.declared.status.Status.TheVariants as status;
+ghost use Rattle.kat_top.specs.Jobs.{print_answer};
 
 use crate::fault::{Fault, fault_text};
 use crate::inputs::InputError;
@@ -35,7 +34,7 @@ pub fn say_fault<K: Sink>(alloc: Global, out: &mut K, fault: &Fault) -> Status
 
 /// Writes the canonical text of a specification.
 pub fn say_canonical<K: Sink>(alloc: Global, out: &mut K, spec: &Spec) -> Status
-    ensures { Gives (record { status = status.Ok; text = canonical_text spec.now }) result (K.seen out.old) (K.seen out.new) }
+    ensures { Gives (print_answer spec.now) result (K.seen out.old) (K.seen out.new) }
 {
     match print_spec(alloc, spec) {
         Ok(text) => say(out, text.as_bytes(), Status::Ok),
@@ -46,7 +45,8 @@ pub fn say_canonical<K: Sink>(alloc: Global, out: &mut K, spec: &Spec) -> Status
 /// Writes a text, and ends with this status where it was written whole.
 fn say<K: Sink>(out: &mut K, text: &[u8], status: Status) -> Status
     requires { IsPlain status }
-    ensures { Gives (record { status = status; text = text.now }) result (K.seen out.old) (K.seen out.new) }
+    ensures { Gives (record { status = status; text = text.now })
+        result (K.seen out.old) (K.seen out.new) }
 {
     match out.write_all(text) {
         Ok(()) => status,

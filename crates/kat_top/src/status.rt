@@ -20,7 +20,8 @@ pub enum Status {
     WriteFault,
     /// A file has more bytes than are read.
     TooLong,
-    /// A text stands for no specification, or for none that can be run yet, or for no image of its machine.
+    /// A text stands for no specification, or for none that can be run yet, or for no image of its
+    /// machine.
     Form,
     /// A specification is not typed.
     IllTyped,
