@@ -1,31 +1,14 @@
-// Declarations, and the specification that they make.
+//! Declarations, and the specification that they make.
 
 ghost use Rattle.std.specs.Prelude.{◌≡◌};
 
 use crate::assertion::Assertion;
 use crate::expr::Expr;
 use crate::stm::Stm;
+use crate::type_name::{Param, TypeName};
 use kat_text::Text;
 use sqlite_items::Items;
 use std::marker::Model;
-
-/// A type as it is written.
-#[derive(Drop)]
-pub enum TypeName {
-    Unit,
-    Bool,
-    /// `(bits n)`
-    Bits(u64),
-    /// A declared type.
-    Named(Text),
-}
-
-/// A name with its type, `(x T)`: a parameter, a constructor with its payload, a field.
-#[derive(Drop)]
-pub struct Param {
-    pub name: Text,
-    pub ty: TypeName,
-}
 
 /// Who may change a register.
 #[derive(Clone, Copy, Debug, PartialEq, Eq, Drop)]
@@ -192,7 +175,7 @@ impl Model for Decl {
 
     ghost coded = { Prim.hlevel (codes, expr.the_row.coded, stm.the_row.coded, assertion.the_row.coded) };
 
-    ghost use Rattle.kat_ast.specs.WellFormed.{IsDecl};
+    ghost use Rattle.kat_ast.specs.Declarations.{IsDecl};
 
     ghost view = { λ d. d.form };
 
@@ -200,7 +183,7 @@ impl Model for Decl {
 }
 
 impl Decl {
-    ghost use Rattle.kat_ast.specs.WellFormed.{IsDecl};
+    ghost use Rattle.kat_ast.specs.Declarations.{IsDecl};
 
     /// The declaration of a form.
     pub fn new(form: DeclForm) -> Decl
@@ -238,7 +221,7 @@ impl Model for Spec {
 
     ghost coded = { Prim.hlevel (codes, expr.the_row.coded, stm.the_row.coded, assertion.the_row.coded) };
 
-    ghost use Rattle.kat_ast.specs.WellFormed.{IsSpec};
+    ghost use Rattle.kat_ast.specs.Specifications.{IsSpec};
 
     ghost view = { λ s. record { version = s.version; decls = s.decls } };
 
@@ -246,7 +229,7 @@ impl Model for Spec {
 }
 
 impl Spec {
-    ghost use Rattle.kat_ast.specs.WellFormed.{IsSpec};
+    ghost use Rattle.kat_ast.specs.Specifications.{IsSpec};
 
     /// The specification of these declarations. The version is 1.
     pub fn new(version: u64, decls: Items<Decl>) -> Spec

@@ -4,12 +4,12 @@ use Rattle.std.specs.List.{All, Contains, slice_split}
 use Rattle.std.specs.Str.{IsUtf8, chars}
 use Rattle.kat_names.specs.Names.{position_of}
 use Rattle.kat_tree.specs.declared.tree.Token.TheVariants.{Number}
-use Rattle.kat_tree.specs.Spelling.{StandsFor}
+use Rattle.kat_tree.specs.Spelling.{SpellsToken}
 use Rattle.kat_value.specs.declared.value.Value.{Value}
 use Rattle.kat_value.specs.declared.value.Value.TheVariants.{Bits as BitsValue}
 use Rattle.kat_value.specs.Numbers.{IsNumber}
-use Rattle.kat_ast.specs.declared.decl.TypeName.{TypeName}
-use Rattle.kat_ast.specs.declared.decl.TypeName.TheVariants.{Bits}
+use Rattle.kat_ast.specs.declared.type_name.TypeName.{TypeName}
+use Rattle.kat_ast.specs.declared.type_name.TypeName.TheVariants.{Bits}
 use Rattle.kat_ast.specs.declared.decl.DeclForm.{DeclForm}
 use Rattle.kat_ast.specs.Spec.{Spec}
 use Rattle.kat_syntax.specs.Tables.{Name, RegisterDecl, registers_of}
@@ -21,7 +21,8 @@ use Rattle.kat_syntax.specs.Start.{start_of}
 abbrev pub Line : Type 0
 Line = List ℕ
 
--- the lines of a text are what stands between its newlines: behind a last newline that is an empty line
+-- the lines of a text are what stands between its newlines: behind a last newline that is an empty
+-- line
 abbrev pub lines_of : List ℕ → List Line
 lines_of bytes = slice_split (λ byte. byte == 10) bytes
 
@@ -49,7 +50,7 @@ pub record Assigns (names : List Name) (line : Line) (at number : ℕ) : Type 0 
   pub word : List ℕ
   pub words : AreWords line name word
   pub named : position_of names name ≡ Some at
-  pub spelled : StandsFor (chars word) (Number number)
+  pub spelled : SpellsToken (chars word) (Number number)
 
 -- a line sets the register at this position to this value: the number fits the register's width
 pub record Sets (spec : Spec) (line : Line) (at : ℕ) (value : Value) : Type 0 where
@@ -76,13 +77,15 @@ MayFollow spec lines line = (line ≡ []) ⊎ ((at : ℕ) × (value : Value) × 
 abbrev pub AreSettings : Spec → List Line → Type 0
 AreSettings spec lines = (k : ℕ) (d : Line) → k < length lines → MayFollow spec (take k lines) (slice_index_or lines k d)
 
--- a line sets the register at this position to what is its value now, or none does and its value is the first one
+-- a line sets the register at this position to what is its value now, or none does and its value is
+-- the first one
 abbrev pub HasItsValue : Spec → List Line → List Value → ℕ → Type 0
 HasItsValue spec lines values at =
     ((value : Value) × IsSet spec lines at value × (slice_get values at ≡ Some value))
     ⊎ (IsUnset spec lines at × (slice_get values at ≡ slice_get (start_of spec).registers at))
 
--- the bytes are an image of the state: their lines set registers, and the others are as in the first state
+-- the bytes are an image of the state: their lines set registers, and the others are as in the
+-- first state
 pub record IsImageOf (spec : Spec) (bytes : List ℕ) (state : MachineState) : Type 0 where
   pub settings : AreSettings spec (lines_of bytes)
   pub values : (at : ℕ) → HasItsValue spec (lines_of bytes) state.registers at

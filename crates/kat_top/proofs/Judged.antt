@@ -7,9 +7,9 @@ use Rattle.kat_tree.specs.declared.tree.Tree.{Tree as TextTree}
 use Rattle.kat_tree.specs.Spelling.{Spells}
 use Rattle.kat_tree.specs.Faults.{IsFirstFault}
 use Rattle.kat_ast.specs.Spec.{Spec}
-use Rattle.kat_ast.specs.Describes.{Reads}
+use Rattle.kat_ast.specs.Specifications.{Reads}
 use Rattle.kat_syntax.specs.Machine.{MachineState}
-use Rattle.kat_syntax.specs.Runnable.{IsFirstForm}
+use Rattle.kat_syntax.specs.Runnable.{IsRunnable}
 use Rattle.kat_forms.specs.declared.misfit.Misfit.{Misfit}
 use Rattle.kat_forms.specs.Reading.{IsFirstMisfit}
 use Rattle.kat_image.specs.Image.{IsImageOf}
@@ -115,7 +115,7 @@ module _ (laws : FileLaws) where
   pub not_both : (earlier : List Thing) (kind : Kind) (bytes : List ℕ) (thing : Thing) (said : Fault) → IsReadAs earlier kind bytes thing → IsRefusedAs earlier kind bytes said → ⊥
   not_both earlier ASpec bytes thing said (s, x, r) (inl y) = read_or_no_tree bytes s said r y
   not_both earlier ASpec bytes thing said (s, x, r) (inr y) = read_or_no_spec bytes s said r y
-  not_both earlier AMachine bytes thing said (s, x, r) (inl y) = y.not_first (subst IsFirstForm (laws.one_spec bytes s y.spec r.reads y.reads) r.first)
+  not_both earlier AMachine bytes thing said (s, x, r) (inl y) = y.not_runnable (subst IsRunnable (laws.one_spec bytes s y.spec r.reads y.reads) r.runnable)
   not_both earlier AMachine bytes thing said (s, x, r) (inr (inl y)) = read_or_no_tree bytes s said r.reads y
   not_both earlier AMachine bytes thing said (s, x, r) (inr (inr y)) = read_or_no_spec bytes s said r.reads y
   not_both earlier AnImage bytes thing said (m, s, f, x, r) y =

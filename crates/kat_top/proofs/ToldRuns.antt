@@ -5,11 +5,11 @@ use Rattle.kat_ast.specs.Spec.{Spec}
 use Rattle.kat_syntax.specs.Run.{Cycle, Run}
 use Rattle.kat_syntax.specs.StateText.{state_text_of}
 use Rattle.kat_laws.specs.Soundness.{CanRun, Setup, TextTellsItsRun, BeginningTellsItsRun}
-use Rattle.kat_image.specs.States.{ImagesAreStates}
+use Rattle.kat_laws.specs.Images.{ImagesAreStates}
 use Rattle.kat_top.specs.Told.{IsToldRun, TextTellsToldRun, BeginningTellsToldRun}
 
 can_run : (spec : Spec) (run : Run) → IsToldRun spec run → CanRun spec
-can_run spec run told = record { first = told.machine.first; written = told.machine.reads.described.kept.decls }
+can_run spec run told = record { runnable = told.machine.runnable; written = told.machine.reads.described.kept.decls }
 
 few_events : (n : ℕ) → n ≤ 1000000 → length (replicate n Cycle) < 2 ^ 64
 few_events n few = let counted : length (replicate n Cycle) ≡ n = length-replicate n Cycle in omega arith
@@ -19,7 +19,7 @@ setup images spec run told = record {
   calls = told.calls;
   start = told.start;
   events = replicate told.cycles Cycle;
-  is_state = images spec told.image told.start told.machine.first told.state;
+  is_state = images spec told.image told.start told.machine.runnable told.state;
   few = few_events told.cycles told.few;
 }
 

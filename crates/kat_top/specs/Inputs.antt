@@ -7,9 +7,9 @@ use Rattle.kat_tree.specs.Spelling.{Spells}
 use Rattle.kat_tree.specs.Faults.{IsFirstFault}
 use Rattle.kat_ast.specs.Spec.{Spec}
 use Rattle.kat_ast.specs.declared.wanted.Wanted.{Wanted}
-use Rattle.kat_ast.specs.Describes.{Reads}
+use Rattle.kat_ast.specs.Specifications.{Reads}
 use Rattle.kat_syntax.specs.Machine.{MachineState}
-use Rattle.kat_syntax.specs.Runnable.{IsFirstForm}
+use Rattle.kat_syntax.specs.Runnable.{IsRunnable}
 use Rattle.kat_forms.specs.Reading.{IsFirstMisfit}
 use Rattle.kat_image.specs.Image.{IsImageOf}
 use Rattle.kat_top.specs.declared.fault.Fault.{Fault}
@@ -52,7 +52,7 @@ machine_of (thing ∷ things) = machine_of things
 -- bytes stand for a machine: for a specification that can be run
 pub record IsMachine (bytes : List ℕ) (machine : Spec) : Type 0 where
   pub reads : Reads bytes machine
-  pub first : IsFirstForm machine
+  pub runnable : IsRunnable machine
 
 -- what bytes are read as, behind what was read before them: a line for each kind
 abbrev pub IsReadAs : List Thing → Kind → List ℕ → Thing → Type 0
@@ -92,7 +92,7 @@ pub record IsNotBuilt (bytes : List ℕ) (said : Fault) : Type 0 where
   pub spec : Spec
   pub said_is : said ≡ fault.Unbuilt
   pub reads : Reads bytes spec
-  pub not_first : IsFirstForm spec → ⊥
+  pub not_runnable : IsRunnable spec → ⊥
 
 -- the bytes are no image of the machine before them
 pub record IsNoImage (earlier : List Thing) (bytes : List ℕ) (said : Fault) : Type 0 where

@@ -4,7 +4,7 @@ use Rattle.std.specs.List.{list_any}
 use Rattle.std.specs.String.{string_bytes}
 use Rattle.std.specs.declared.alloc.Global.{Global}
 use Rattle.kat_ast.specs.Spec.{Spec}
-use Rattle.kat_ast.specs.Describes.{canonical_text}
+use Rattle.kat_ast.specs.Specifications.{canonical_text}
 use Rattle.kat_syntax.specs.Machine.{MachineState}
 use Rattle.kat_syntax.specs.Run.{Cycle, Run as MachineRun, RunEnd, Ended, OutIn, FailedIn, run_of}
 use Rattle.kat_syntax.specs.StateText.{state_text_of}

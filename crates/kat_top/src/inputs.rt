@@ -15,7 +15,7 @@ use kat_state::State;
 use kat_syntax::{Checked, Spec};
 use kat_text::Text;
 use kat_tree::{TreeError, places, read_tree, spelled_is_writable, trees_fit_their_text};
-use kat_typing::is_first_form;
+use kat_typing::is_runnable;
 use std::alloc::Global;
 
 /// How many bytes of a file are read.
@@ -134,7 +134,7 @@ fn machine_of(alloc: Global, text: &[u8]) -> Result<Checked, InputError>
         ComesOf earlier AMachine text.now (outcome_of TheMachine result) }
 {
     match spec_of(alloc, text) {
-        Ok(spec) => match is_first_form(alloc, &spec) {
+        Ok(spec) => match is_runnable(alloc, &spec) {
             Ok(true) => match Checked::new(alloc, spec) {
                 Ok(machine) => Ok(machine),
                 Err(_) => Err(InputError::Memory),

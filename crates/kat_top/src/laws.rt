@@ -9,8 +9,8 @@ ghost use Rattle.kat_top.specs.Owed.{IsOwed};
 ghost use Rattle.kat_top.specs.Told.{TextTellsToldRun, BeginningTellsToldRun};
 
 use kat_forms::written_fits;
-use kat_image::{images_are_states, one_state};
-use kat_laws::text_tells_its_run;
+use kat_image::one_state;
+use kat_laws::{images_are_states, text_tells_its_run};
 use kat_syntax::one_reading;
 use kat_tree::one_outcome;
 
