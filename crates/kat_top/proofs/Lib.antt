@@ -1,4 +1,5 @@
 pub mod Asked
+pub mod Built
 pub mod Causes
 pub mod Doing
 pub mod Following
@@ -9,5 +10,5 @@ pub mod Owed
 pub mod Rows
 pub mod Steps
 pub mod ToldRuns
-pub mod Written
 pub mod Trees
+pub mod Written

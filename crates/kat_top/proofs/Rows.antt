@@ -211,8 +211,7 @@ module _ (laws : FileLaws) (job : Option Job) (before after : FilesSeen) (given 
         (at_arrival laws job (AtEnd (λ things. Does job things done.0)) wanted before after x.answer
         (λ taken rest between told. done_here job done.0 wanted taken rest between after x.answer done.2) done.1 x.answers);
     only = λ told is.
-        let owed = owed_as wanted inside is told in
-        (
+        let owed = owed_as wanted inside is told in (
           x.answer,
           reaches_map before.told (EndsWith job before.told x.answer) (AtEnd (λ things. Does job things x.answer)) (done_ends job before.told x.answer (subst IsOfJob (sym owed.1) of_job)) (inputs_of job) [] owed.0,
           owed.2,

@@ -6,12 +6,13 @@ use Rattle.kat_syntax.specs.Run.{Cycle, Run}
 use Rattle.kat_syntax.specs.StateText.{state_text_of}
 use Rattle.kat_laws.specs.Soundness.{CanRun, Setup, TextTellsItsRun, BeginningTellsItsRun}
 use Rattle.kat_laws.specs.Images.{ImagesAreStates}
+use Rattle.kat_words.specs.Limits.{most_cycles}
 use Rattle.kat_top.specs.Told.{IsToldRun, TextTellsToldRun, BeginningTellsToldRun}
 
 can_run : (spec : Spec) (run : Run) → IsToldRun spec run → CanRun spec
 can_run spec run told = record { runnable = told.machine.runnable; written = told.machine.reads.described.kept.decls }
 
-few_events : (n : ℕ) → n ≤ 1000000 → length (replicate n Cycle) < 2 ^ 64
+few_events : (n : ℕ) → n ≤ most_cycles → length (replicate n Cycle) < 2 ^ 64
 few_events n few = let counted : length (replicate n Cycle) ≡ n = length-replicate n Cycle in omega arith
 
 unfoldable setup : ImagesAreStates → (spec : Spec) (run : Run) → IsToldRun spec run → Setup spec

@@ -136,8 +136,8 @@ stopped : (machine : Spec) (run : Run) (end : RunEnd) (said : Fault) (given : St
 stopped machine run end said given old mid new is same_status same_text took gives =
     let wanted : Answer = record { status = status_of_end end; text = end_piece (length run.boundaries - 1) end } in
     let said_is : answer_of_fault said ≡ wanted =
-        ap (λ s. let a : Answer = record { status = s; text = fault_text_of said } in a) same_status
-        ∙ ap (λ t. let a : Answer = record { status = status_of_end end; text = t } in a) same_text in
+    ap (λ s. let a : Answer = record { status = s; text = fault_text_of said } in a) same_status
+    ∙ ap (λ t. let a : Answer = record { status = status_of_end end; text = t } in a) same_text in
     subst (λ a. Gives a given old new) (sym (run_answer_is machine run end is))
     (gives_after given (status_of_end end) old mid new (boundary_text_of machine run) (end_piece (length run.boundaries - 1) end) took
     (subst (λ a. Gives a given mid new) said_is gives))

@@ -59,7 +59,7 @@ DoneWhole job told given old new =
 abbrev pub DoneComes : Status → Option Job → Told → Status → SinkSeen → SinkSeen → Type 0
 DoneComes wanted job told given old new =
     ComesExactly (Tells job told) wanted given
-      (DoneWith wanted job told) (DoneWhole job told given old new)
+    (DoneWith wanted job told) (DoneWhole job told given old new)
 
 -- each status comes exactly where it has its cause
 pub record StatusesCome (job : Option Job) (told : Told) (given : Status) (old new : SinkSeen) :

@@ -30,7 +30,7 @@ AnswersFrom job earlier [] before after answer = (after ≡ before) × Does job 
 AnswersFrom job earlier (input ∷ rest) before after answer =
     StopsAt earlier input before after answer
     ⊎ ((thing : Thing) × (between : FilesSeen) × Loads earlier input (Ok thing) before between
-      × AnswersFrom job (earlier ++ thing ∷ []) rest between after answer)
+    × AnswersFrom job (earlier ++ thing ∷ []) rest between after answer)
 
 -- an answer to a job was given, from here on
 pub record AnsweredFrom
@@ -56,7 +56,7 @@ pub record ReadsMade (job : Option Job) (before after : FilesSeen) (given : Stat
   pub first : AddsReads (names_of (inputs_of job)) before.reads after.reads
   pub asked : Tells job before.told → IsFromOutside given
       ⊎ ((names : List Name) × AreAsked before.told [] (inputs_of job) names
-        × (after.reads ≡ before.reads ++ map read_of names))
+      × (after.reads ≡ before.reads ++ map read_of names))
 
 -- a fault of reading or writing, and a file that is too long, come only where the count of it rose
 pub record HasCauses (given : Status) (before after : FilesSeen) (old new : SinkSeen) : Type 0 where

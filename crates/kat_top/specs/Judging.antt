@@ -44,7 +44,7 @@ Reaches told P earlier [] = P earlier []
 Reaches told P earlier (input ∷ rest) =
     P earlier (input ∷ rest)
     ⊎ ((thing : Thing) × IsTakenAs told earlier input thing
-      × Reaches told P (earlier ++ thing ∷ []) rest)
+    × Reaches told P (earlier ++ thing ∷ []) rest)
 
 -- a fact of the next input, and of what those before it were taken as
 abbrev pub AtNext : (List Thing → Input → Type 0) → List Thing → List Input → Type 0
@@ -97,5 +97,5 @@ names_behind (input ∷ rest) = names_of rest
 abbrev pub AreAsked : Told → List Thing → List Input → List Name → Type 0
 AreAsked told earlier inputs asked =
     Reaches told
-      (λ taken rest. IsEnd told taken rest × (names_of inputs ≡ asked ++ names_behind rest))
-      earlier inputs
+    (λ taken rest. IsEnd told taken rest × (names_of inputs ≡ asked ++ names_behind rest))
+    earlier inputs

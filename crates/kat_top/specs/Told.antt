@@ -5,6 +5,7 @@ use Rattle.kat_syntax.specs.Machine.{MachineState}
 use Rattle.kat_syntax.specs.Run.{Cycle, Run, run_of}
 use Rattle.kat_syntax.specs.StateText.{state_text_of}
 use Rattle.kat_image.specs.Image.{IsImageOf}
+use Rattle.kat_words.specs.Limits.{most_cycles}
 use Rattle.kat_top.specs.Inputs.{IsMachine}
 
 -- a run of a machine that some bytes stand for, from a state that some bytes are an image of: of so
@@ -17,7 +18,7 @@ pub record IsToldRun (spec : Spec) (run : Run) : Type 0 where
   pub calls : ℕ
   pub machine : IsMachine text spec
   pub state : IsImageOf spec image start
-  pub few : cycles ≤ 1000000
+  pub few : cycles ≤ most_cycles
   pub run_is : run ≡ run_of spec calls start (replicate cycles Cycle)
 
 -- two such runs of one machine that print the same text are the same run

@@ -30,34 +30,20 @@ pub enum Fault {
     /// The words ask for no job that the program does.
     Usage,
     /// The file of this name could not be read.
-    Read {
-        name: Text,
-    },
+    Read { name: Text },
     /// The file of this name has more bytes than are read; so many were taken.
-    Long {
-        name: Text,
-        taken: u64,
-    },
+    Long { name: Text, taken: u64 },
     /// A text is no tree. The offset counts bytes.
-    Tree {
-        kind: TreeKind,
-        offset: u64,
-    },
+    Tree { kind: TreeKind, offset: u64 },
     /// A tree is no specification: the first tree, in preorder, that fits no form, and what is
     /// wanted there.
-    Form {
-        place: u64,
-        wanted: Wanted,
-    },
+    Form { place: u64, wanted: Wanted },
     /// A text stands for nothing that can be run yet.
     Unbuilt,
     /// The cycle of this number made a call with none left.
     Out(u64),
     /// The cycle of this number failed, at this place.
-    Failed {
-        cycle: u64,
-        site: Place,
-    },
+    Failed { cycle: u64, site: Place },
 }
 
 /// The line of a fault.

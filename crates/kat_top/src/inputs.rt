@@ -34,7 +34,7 @@ pub enum InputError {
 pub fn load_spec<F: Files>(alloc: Global, files: &mut F, name: &str) -> Result<Spec, InputError>
     ensures { (earlier : List Thing) →
         Loads earlier (input ASpec name.now) (outcome_of TheSpec result)
-            (F.seen files.old) (F.seen files.new) }
+        (F.seen files.old) (F.seen files.new) }
 {
     match load(alloc, files, name) {
         Ok(bytes) => spec_of(alloc, bytes.as_slice()),
@@ -50,7 +50,7 @@ pub fn load_machine<F: Files>(
 ) -> Result<Checked, InputError>
     ensures { (earlier : List Thing) →
         Loads earlier (input AMachine name.now) (outcome_of TheMachine result)
-            (F.seen files.old) (F.seen files.new) }
+        (F.seen files.old) (F.seen files.new) }
 {
     match load(alloc, files, name) {
         Ok(bytes) => machine_of(alloc, bytes.as_slice()),
@@ -67,7 +67,7 @@ pub fn load_image<F: Files>(
 ) -> Result<State, InputError>
     ensures { (earlier : List Thing) → machine_of earlier ≡ Some machine.now →
         Loads earlier (input AnImage name.now) (outcome_of TheState result)
-            (F.seen files.old) (F.seen files.new) }
+        (F.seen files.old) (F.seen files.new) }
 {
     match load(alloc, files, name) {
         Ok(bytes) => start_of(alloc, bytes.as_slice(), machine),
