@@ -1,5 +1,5 @@
 -- The table of forms: the word with which each begins, and what its parts are read as.
-use Rattle.std.specs.Prelude.{ℕ, ◌+◌, ◌-◌, ◌==◌, nat_le, Bool, true, false, ◌&&◌, ◌||◌, not, if◌then◌else◌, List, [], ◌∷◌, ◌++◌, length, map, replicate, codes, Option, Some, None}
+use Rattle.std.specs.Prelude.{ℕ, ◌+◌, ◌-◌, ◌==◌, nat_le, Bool, true, false, ◌&&◌, not, if◌then◌else◌, List, [], ◌∷◌, ◌++◌, length, map, replicate, codes, Option, Some, None}
 use Rattle.std.specs.Option.{option_map, option_and_then}
 use Rattle.std.specs.Str.{bytes_eq}
 use Rattle.kat_tree.specs.declared.tree.Token.{Token}
@@ -189,7 +189,7 @@ abbrev pub sorts_of : Form → ℕ → Option (List Sort)
 sorts_of form count =
     if nat_le (length form.first + length form.last) count
     then option_map (λ sorts. form.first ++ sorts ++ form.last)
-        (middles form.middle (count - (length form.first + length form.last)))
+    (middles form.middle (count - (length form.first + length form.last)))
     else None
 
 -- what the parts of a list are read as, by its first word and their count; none where it has no
