@@ -3,15 +3,17 @@ use Rattle.std.proofs.Common.{◌≡◌, ℕ, Bool, true, false, ◌&&◌, List,
 use Rattle.std.specs.Prelude.{codes}
 use Rattle.kat_tree.specs.declared.tree.Tree.{Tree}
 use Rattle.kat_tree.specs.declared.tree.Tree.TheVariants as variant
-use Rattle.kat_ast.specs.declared.decl.TypeName.{TypeName}
+use Rattle.kat_ast.specs.declared.type_name.TypeName.{TypeName}
 use Rattle.kat_ast.specs.declared.expr.Expr.{Expr}
 use Rattle.kat_ast.specs.declared.assertion.Assertion.{Assertion}
 use Rattle.kat_ast.specs.declared.assertion.Assertion.TheVariants as assertion
 use Rattle.kat_ast.specs.declared.assertion.Assertion.TheVariants.{rolls-Pure, rolls-Register, rolls-Cell, rolls-Star, rolls-If, rolls-Exists, rolls-Predicate, rolls-Region}
 use Rattle.kat_ast.specs.declared.assertion.Assertion.TheOpen as layer
 use Rattle.kat_ast.specs.declared.assertion.Assertion.TheFolds.{fold-roll-Assertion}
-use Rattle.kat_ast.specs.Formed.{is_name, every, is_formed_expr, are_formed_exprs, is_formed_type, assertion_formed, is_formed_assertion}
-use Rattle.kat_ast.specs.Written.{word, form, tree_of_expr, tree_of_param, assertion_tree, tree_of_assertion}
+use Rattle.kat_ast.specs.Parts.{is_name, every, word, form}
+use Rattle.kat_ast.specs.Types.{is_formed_type, tree_of_param}
+use Rattle.kat_ast.specs.Expressions.{is_formed_expr, are_formed_exprs, tree_of_expr}
+use Rattle.kat_ast.specs.Assertions.{assertion_formed, is_formed_assertion, assertion_tree, tree_of_assertion}
 use Rattle.kat_forms.specs.declared.heads.AssertionHead.{AssertionHead}
 use Rattle.kat_forms.specs.Heads.{word_of_assertion}
 use Rattle.kat_forms.specs.Fits.{judged, first_word, list_fits}

@@ -2,12 +2,12 @@
 use Rattle.std.proofs.Common.{◌≡◌, ℕ, zero, suc, ◌+◌, ◌-◌, ◌≤◌, Bool, true, false, ◌&&◌, if◌then◌else◌, List, [], ◌∷◌, ◌++◌, length, drop, take, get_or, map, Some, None, refl, ap, sym, ◌∙◌, subst, arith, length-append}
 use Rattle.kat_tree.specs.declared.tree.Tree.{Tree}
 use Rattle.kat_tree.specs.declared.tree.Tree.TheVariants as variant
-use Rattle.kat_ast.specs.Written.{form}
+use Rattle.kat_ast.specs.Parts.{form}
 use Rattle.kat_forms.specs.declared.sort.Sort.{Sort}
 use Rattle.kat_forms.specs.declared.heads.DeclHead.{DeclHead}
 use Rattle.kat_forms.specs.declared.heads.DeclHead.TheVariants as decl
 use Rattle.kat_forms.specs.Heads.{word_of_decl}
-use Rattle.kat_ast.specs.Formed.{is_some}
+use Rattle.kat_ast.specs.Parts.{is_some}
 use Rattle.kat_forms.specs.Shapes.{Shape, many, middles, shape_if, shape_of, shape_of_decl, sorts_of}
 use Rattle.kat_forms.specs.Fits.{Judged, judged, first_word, all_fit, list_fits, fits}
 use Rattle.std.specs.Prelude.{codes, replicate, nat_le}

@@ -11,8 +11,9 @@ use Rattle.kat_ast.specs.declared.expr.Expr.TheVariants as expr
 use Rattle.kat_ast.specs.declared.expr.Expr.TheVariants.{rolls-Of, rolls-Make, rolls-Rec, rolls-Register, rolls-Kept, rolls-Before, rolls-After, rolls-Get, rolls-Apply}
 use Rattle.kat_ast.specs.declared.expr.Expr.TheOpen as layer
 use Rattle.kat_ast.specs.declared.expr.Expr.TheFolds.{fold-roll-Expr}
-use Rattle.kat_ast.specs.Formed.{is_name, is_written, arity_of, expr_formed, is_formed_expr, are_formed_exprs}
-use Rattle.kat_ast.specs.Written.{word, form, word_of_op, numbers_before, expr_tree, tree_of_expr}
+use Rattle.kat_value.specs.Words.{is_written, arity_of, word_of_op}
+use Rattle.kat_ast.specs.Parts.{is_name, word, form}
+use Rattle.kat_ast.specs.Expressions.{expr_formed, is_formed_expr, are_formed_exprs, numbers_before, expr_tree, tree_of_expr}
 use Rattle.kat_forms.specs.declared.heads.ExprHead.{ExprHead}
 use Rattle.kat_forms.specs.Heads.{word_of_expr}
 use Rattle.kat_forms.specs.Fits.{judged, first_word, list_fits}

@@ -11,7 +11,7 @@ use Rattle.kat_tree.specs.declared.tree.Tree.TheVariants as variant
 use Rattle.kat_tree.specs.declared.tree.Tree.TheVariants.{rolls-Atom, rolls-List}
 use Rattle.kat_tree.specs.declared.tree.Tree.TheOpen.{Tree-F}
 use Rattle.kat_tree.specs.declared.tree.Tree.TheFolds.{fold-roll-Tree}
-use Rattle.kat_ast.specs.Written.{word, form}
+use Rattle.kat_ast.specs.Parts.{word, form}
 use Rattle.kat_forms.specs.declared.sort.Sort.{Sort}
 use Rattle.kat_forms.specs.declared.sort.Sort.TheVariants as sort
 use Rattle.kat_forms.specs.Shapes.{Shape, exactly, many, shape_of, sorts_of}

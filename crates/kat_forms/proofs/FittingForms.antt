@@ -21,9 +21,9 @@ use Rattle.kat_ast.specs.declared.stm.Stm.TheFolds.{map-Stm, fold-roll-Stm, ind-
 use Rattle.kat_ast.specs.declared.assertion.Assertion.{Assertion}
 use Rattle.kat_ast.specs.declared.assertion.Assertion.TheOpen as assertion
 use Rattle.kat_ast.specs.declared.assertion.Assertion.TheFolds.{map-Assertion, fold-roll-Assertion, ind-Assertion}
-use Rattle.kat_ast.specs.declared.decl.TypeName.{TypeName}
-use Rattle.kat_ast.specs.declared.decl.TypeName.TheVariants as type
-use Rattle.kat_ast.specs.declared.decl.Param.{Param}
+use Rattle.kat_ast.specs.declared.type_name.TypeName.{TypeName}
+use Rattle.kat_ast.specs.declared.type_name.TypeName.TheVariants as type
+use Rattle.kat_ast.specs.declared.type_name.Param.{Param}
 use Rattle.kat_ast.specs.declared.decl.Phase.{Phase}
 use Rattle.kat_ast.specs.declared.decl.Phase.TheVariants as phase
 use Rattle.kat_ast.specs.declared.decl.When.{When}
@@ -33,8 +33,13 @@ use Rattle.kat_ast.specs.declared.decl.CellsKind.{CellsKind}
 use Rattle.kat_ast.specs.declared.decl.CellsKind.TheVariants as cells_kind
 use Rattle.kat_ast.specs.declared.decl.DeclForm.{DeclForm}
 use Rattle.kat_ast.specs.declared.decl.DeclForm.TheVariants as decl
-use Rattle.kat_ast.specs.Written.{word, number, form, word_of_op, numbers_before, expr_tree, tree_of_expr, tree_of_case_arm, tree_of_match_arm, stm_tree, tree_of_stm, assertion_tree, tree_of_assertion, tree_of_type, tree_of_param, tree_of_params, tree_of_phase, tree_of_when, word_of_register_kind, word_of_cells_kind, holding, tree_of_decl}
-use Rattle.kat_ast.specs.Formed.{is_name, every, is_some, arity_of, is_written, expr_formed, is_formed_expr, are_formed_exprs, is_formed_case_arm, is_formed_match_arm, stm_formed, is_formed_stm, assertion_formed, is_formed_assertion, is_formed_type, is_formed_param, are_formed_params, is_formed_phase, is_formed_when, is_formed_decl}
+use Rattle.kat_value.specs.Words.{word_of_op, arity_of, is_written}
+use Rattle.kat_ast.specs.Parts.{word, number, form, is_name, every, is_some}
+use Rattle.kat_ast.specs.Types.{tree_of_type, tree_of_param, tree_of_params, is_formed_type, is_formed_param, are_formed_params}
+use Rattle.kat_ast.specs.Expressions.{numbers_before, expr_tree, tree_of_expr, expr_formed, is_formed_expr, are_formed_exprs}
+use Rattle.kat_ast.specs.Statements.{tree_of_case_arm, tree_of_match_arm, stm_tree, tree_of_stm, is_formed_case_arm, is_formed_match_arm, stm_formed, is_formed_stm}
+use Rattle.kat_ast.specs.Assertions.{assertion_tree, tree_of_assertion, assertion_formed, is_formed_assertion}
+use Rattle.kat_ast.specs.Declarations.{tree_of_phase, tree_of_when, word_of_register_kind, word_of_cells_kind, holding, tree_of_decl, is_formed_phase, is_formed_when, is_formed_decl}
 use Rattle.kat_forms.specs.declared.sort.Sort.{Sort}
 use Rattle.kat_forms.specs.declared.sort.Sort.TheVariants as sort
 use Rattle.kat_forms.specs.Shapes.{exactly, many, arguments, shape_of}

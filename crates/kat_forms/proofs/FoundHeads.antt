@@ -5,8 +5,8 @@ use Rattle.std.specs.Str.{bytes_eq}
 use Rattle.std.proofs.lemmas.Slice.Eq.{bytes_eq-Decides}
 use Rattle.kat_value.specs.declared.op.Op.{Op}
 use Rattle.kat_value.specs.declared.op.Op.TheVariants as op
-use Rattle.kat_ast.specs.Formed.{is_written}
-use Rattle.kat_ast.specs.Written.{numbers_before}
+use Rattle.kat_value.specs.Words.{is_written}
+use Rattle.kat_ast.specs.Expressions.{numbers_before}
 use Rattle.kat_forms.specs.declared.heads.ExprHead.{ExprHead}
 use Rattle.kat_forms.specs.Heads.{Words, head_in, expr_words, expr_head, word_of_expr}
 use Rattle.kat_forms.specs.Parts.{is_bare, is_listed}

@@ -1,7 +1,7 @@
 -- Lists that are read part by part.
 use Rattle.std.proofs.Common.{◌≡◌, ℕ, Bool, ◌&&◌, ◌+◌, ◌<◌, ◌≤◌, List, [], ◌∷◌, ◌++◌, length, take, get_or, map, true, false, refl, ap, sym, ◌∙◌}
 use Rattle.std.proofs.lemmas.List.{take_more, take_all, map-append}
-use Rattle.kat_ast.specs.Formed.{every}
+use Rattle.kat_ast.specs.Parts.{every}
 
 -- two truths
 pub both : (a b : Bool) → a ≡ true → b ≡ true → a && b ≡ true

@@ -8,7 +8,7 @@ use Rattle.std.proofs.lemmas.List.{append-nil, length-map, length-replicate, len
 use Rattle.std.proofs.lemmas.List.Sums.{sum_by-append, sum_by-cons}
 use Rattle.kat_tree.specs.declared.tree.Tree.{Tree}
 use Rattle.kat_tree.specs.declared.tree.Tree.TheVariants as variant
-use Rattle.kat_ast.specs.Written.{form, word}
+use Rattle.kat_ast.specs.Parts.{form, word}
 use Rattle.kat_forms.specs.declared.sort.Sort.{Sort}
 use Rattle.kat_forms.specs.declared.sort.Sort.TheVariants.{Word}
 use Rattle.kat_forms.specs.Shapes.{exactly, many, middles, sorts_of}

@@ -8,7 +8,7 @@ use Rattle.kat_tree.specs.declared.tree.Tree.TheVariants.{rolls-Atom, rolls-List
 use Rattle.kat_tree.specs.declared.tree.Tree.TheOpen.{Tree-F}
 use Rattle.kat_tree.specs.declared.tree.Tree.TheViews.{roll-Tree, out-Tree, roll-out-Tree}
 use Rattle.kat_tree.specs.declared.tree.Tree.TheFolds.{map-Tree, fold-roll-Tree}
-use Rattle.kat_ast.specs.Written.{word, form}
+use Rattle.kat_ast.specs.Parts.{word, form}
 use Rattle.std.specs.Option.{option_and_then}
 use Rattle.std.specs.Str.{bytes_eq}
 use Rattle.std.proofs.lemmas.Slice.Eq.{bytes_eq-Decides}

@@ -16,8 +16,9 @@ use Rattle.kat_ast.specs.declared.stm.Stm.TheVariants.{Ret, Let, Seq, If, Case, 
 use Rattle.kat_ast.specs.declared.stm.Stm.TheVariants.{rolls-Ret, rolls-Let, rolls-Seq, rolls-If, rolls-Case, rolls-Match, rolls-Read, rolls-Write, rolls-Load, rolls-Store, rolls-Call, rolls-Check, rolls-Fail, rolls-Open, rolls-Close, rolls-Lemma}
 use Rattle.kat_ast.specs.declared.stm.Stm.TheFolds.{fold-roll-Stm}
 use Rattle.kat_ast.specs.declared.stm.Stm.TheShapes.{former-Stm-Case-1-at-2 as case_arm, former-Stm-Match-1-at-3 as match_arm}
-use Rattle.kat_ast.specs.Written.{word, form, tree_of_expr, stm_tree, tree_of_stm, tree_of_case_arm, tree_of_match_arm}
-use Rattle.kat_ast.specs.Formed.{is_name, every, is_some, is_formed_expr, are_formed_exprs, stm_formed, is_formed_stm, is_formed_case_arm, is_formed_match_arm}
+use Rattle.kat_ast.specs.Parts.{word, form, is_name, every, is_some}
+use Rattle.kat_ast.specs.Expressions.{tree_of_expr, is_formed_expr, are_formed_exprs}
+use Rattle.kat_ast.specs.Statements.{stm_tree, tree_of_stm, tree_of_case_arm, tree_of_match_arm, stm_formed, is_formed_stm, is_formed_case_arm, is_formed_match_arm}
 use Rattle.kat_forms.specs.declared.sort.Sort.{Sort}
 use Rattle.kat_forms.specs.declared.sort.Sort.TheVariants as sort
 use Rattle.kat_forms.specs.declared.heads.StmHead.{StmHead}

@@ -16,9 +16,9 @@ use Rattle.kat_tree.specs.declared.tree.Tree.TheViews.{roll-Tree, out-Tree, roll
 use Rattle.kat_tree.specs.declared.tree.Tree.TheFolds.{map-Tree, fold-roll-Tree, ind-Tree}
 use Rattle.kat_ast.specs.declared.decl.DeclForm.{DeclForm}
 use Rattle.kat_ast.specs.Spec.{Spec}
-use Rattle.kat_ast.specs.Written.{number, form, tree_of_decl}
-use Rattle.kat_ast.specs.WellFormed.{IsDecl}
-use Rattle.kat_ast.specs.Describes.{tree_of_spec, Describes}
+use Rattle.kat_ast.specs.Parts.{number, form}
+use Rattle.kat_ast.specs.Declarations.{tree_of_decl, IsDecl}
+use Rattle.kat_ast.specs.Specifications.{tree_of_spec, Describes}
 use Rattle.kat_forms.specs.declared.sort.Sort.TheVariants as sort
 use Rattle.kat_forms.specs.declared.sort.Sort.{Sort}
 use Rattle.kat_forms.specs.Shapes.{many, shape_of, sorts_of}
@@ -31,7 +31,7 @@ use Rattle.kat_forms.proofs.FittingForms.{headed_many, decl_fits}
 use Rattle.std.specs.Prelude.{slice_get, Result, Ok, Err, MatchResult}
 use Rattle.kat_tree.specs.Lexeme.{nesting}
 use Rattle.kat_tree.specs.Written.{IsWritable}
-use Rattle.kat_ast.specs.Formed.{is_formed_decl}
+use Rattle.kat_ast.specs.Declarations.{is_formed_decl}
 use Rattle.kat_forms.specs.declared.error.FormError.{FormError}
 use Rattle.kat_forms.specs.declared.error.FormError.TheVariants.{Wanted, Memory}
 use Rattle.kat_forms.specs.Reading.{IsFirstMisfit, Names, GivesSpec}

@@ -8,7 +8,7 @@ use Rattle.kat_tree.specs.declared.tree.Tree.{Tree}
 use Rattle.kat_tree.specs.declared.tree.Tree.TheOpen.{Tree-F}
 use Rattle.kat_tree.specs.declared.tree.Tree.TheFolds.{fold-Tree}
 use Rattle.kat_forms.specs.declared.misfit.Misfit.{Misfit}
-use Rattle.kat_ast.specs.Formed.{is_name}
+use Rattle.kat_ast.specs.Parts.{is_name}
 use Rattle.kat_forms.specs.declared.sort.Sort.{Sort}
 use Rattle.kat_forms.specs.declared.sort.Sort.TheVariants.{Version, TypeName, Name, Number, RegisterPlace, CellsPlace, Expression, Phase, Word}
 use Rattle.kat_forms.specs.Sorts.{misfit_at}

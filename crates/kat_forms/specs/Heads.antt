@@ -2,7 +2,7 @@
 use Rattle.std.specs.Prelude.{ℕ, List, [], ◌∷◌, Option, Some, None, if◌then◌else◌, codes}
 use Rattle.std.specs.Str.{bytes_eq}
 use Rattle.kat_value.specs.declared.op.Op.TheVariants as op
-use Rattle.kat_ast.specs.Written.{word_of_op}
+use Rattle.kat_value.specs.Words.{word_of_op}
 use Rattle.kat_forms.specs.declared.heads.DeclHead.{DeclHead}
 use Rattle.kat_forms.specs.declared.heads.DeclHead.TheVariants as decl
 use Rattle.kat_forms.specs.declared.heads.StmHead.{StmHead}

@@ -3,8 +3,8 @@
 ghost use Rattle.std.specs.Prelude.{◌≡◌, true, Some, IfOk, length, map};
 ghost use Rattle.std.specs.List.{AllByRecursion};
 ghost use Rattle.kat_tree.specs.declared.tree.Tree.TheVariants as variant;
-ghost use Rattle.kat_ast.specs.Formed.{every, is_formed_assertion};
-ghost use Rattle.kat_ast.specs.Written.{tree_of_assertion};
+ghost use Rattle.kat_ast.specs.Parts.{every};
+ghost use Rattle.kat_ast.specs.Assertions.{is_formed_assertion, tree_of_assertion};
 ghost use Rattle.kat_forms.specs.Heads.{word_of_assertion};
 ghost use Rattle.kat_forms.specs.Shapes.{shape_of_assertion, sorts_of};
 ghost use Rattle.kat_forms.specs.Fits.{judged, first_word, sorts_for, list_fits};

@@ -1,8 +1,8 @@
 // Names, numbers and types.
 
 ghost use Rattle.std.specs.Prelude.{◌≡◌, true, IfOk};
-ghost use Rattle.kat_ast.specs.Formed.{is_name, is_formed_type};
-ghost use Rattle.kat_ast.specs.Written.{word, number, tree_of_type};
+ghost use Rattle.kat_ast.specs.Parts.{is_name, word, number};
+ghost use Rattle.kat_ast.specs.Types.{is_formed_type, tree_of_type};
 ghost use Rattle.kat_forms.specs.Parts.{Fits};
 
 use crate::sort::Sort;

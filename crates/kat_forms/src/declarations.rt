@@ -3,8 +3,11 @@
 ghost use Rattle.std.specs.Prelude.{◌≡◌, [], ◌∷◌, true, Some, IfOk, length, map, codes};
 ghost use Rattle.std.specs.List.{AllByRecursion};
 ghost use Rattle.kat_tree.specs.declared.tree.Tree.TheVariants as variant;
-ghost use Rattle.kat_ast.specs.Formed.{is_name, every, is_formed_expr, is_formed_assertion, is_formed_phase, is_formed_when, is_formed_stm, is_formed_decl};
-ghost use Rattle.kat_ast.specs.Written.{word, number, form, holding, word_of_register_kind, word_of_cells_kind, tree_of_expr, tree_of_stm, tree_of_phase, tree_of_when, tree_of_decl};
+ghost use Rattle.kat_ast.specs.Parts.{is_name, every, word, number, form};
+ghost use Rattle.kat_ast.specs.Expressions.{is_formed_expr, tree_of_expr};
+ghost use Rattle.kat_ast.specs.Statements.{is_formed_stm, tree_of_stm};
+ghost use Rattle.kat_ast.specs.Assertions.{is_formed_assertion};
+ghost use Rattle.kat_ast.specs.Declarations.{is_formed_phase, is_formed_when, is_formed_decl, holding, word_of_register_kind, word_of_cells_kind, tree_of_phase, tree_of_when, tree_of_decl};
 ghost use Rattle.kat_forms.specs.Heads.{word_of_decl};
 ghost use Rattle.kat_forms.specs.Shapes.{shape_of_decl, sorts_of};
 ghost use Rattle.kat_forms.specs.Fits.{judged, first_word, sorts_for, list_fits};

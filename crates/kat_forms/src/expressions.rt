@@ -3,8 +3,9 @@
 ghost use Rattle.std.specs.Prelude.{◌≡◌, ◌++◌, true, false, Some, IfOk, length, map};
 ghost use Rattle.std.specs.List.{AllByRecursion};
 ghost use Rattle.kat_tree.specs.declared.tree.Tree.TheVariants as variant;
-ghost use Rattle.kat_ast.specs.Formed.{is_formed_expr, are_formed_exprs, is_written, arity_of};
-ghost use Rattle.kat_ast.specs.Written.{word, form, word_of_op, numbers_before, tree_of_expr};
+ghost use Rattle.kat_value.specs.Words.{is_written, arity_of, word_of_op};
+ghost use Rattle.kat_ast.specs.Parts.{word, form};
+ghost use Rattle.kat_ast.specs.Expressions.{is_formed_expr, are_formed_exprs, numbers_before, tree_of_expr};
 ghost use Rattle.kat_forms.specs.Heads.{word_of_expr};
 ghost use Rattle.kat_forms.specs.Shapes.{shape_of_expr, sorts_of};
 ghost use Rattle.kat_forms.specs.Fits.{judged, first_word, sorts_for, list_fits};

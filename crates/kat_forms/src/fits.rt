@@ -2,7 +2,7 @@
 
 ghost use Rattle.std.specs.Prelude.{◌≡◌, ◌+◌, ◌<◌, ◌^◌, true, false, map, slice_get, MatchResult};
 ghost use Rattle.std.specs.Option.{option_map, option_and_then};
-ghost use Rattle.kat_ast.specs.Formed.{is_name};
+ghost use Rattle.kat_ast.specs.Parts.{is_name};
 ghost use Rattle.kat_forms.specs.Fits.{fits_token, first_word, sorts_for, judged, fits, misfit_of};
 
 use crate::misfit::Misfit;

@@ -4,9 +4,8 @@ ghost use Rattle.std.specs.Prelude.{◌≡◌, true};
 ghost use Rattle.kat_tree.specs.declared.tree.Tree.{Tree};
 ghost use Rattle.kat_ast.specs.declared.decl.DeclForm.{DeclForm};
 ghost use Rattle.kat_ast.specs.Spec.{Spec};
-ghost use Rattle.kat_ast.specs.Formed.{is_formed_decl};
-ghost use Rattle.kat_ast.specs.Written.{tree_of_decl};
-ghost use Rattle.kat_ast.specs.Describes.{Describes};
+ghost use Rattle.kat_ast.specs.Declarations.{is_formed_decl, tree_of_decl};
+ghost use Rattle.kat_ast.specs.Specifications.{Describes};
 ghost use Rattle.kat_forms.specs.Fits.{fits};
 
 use crate::sort::Sort;

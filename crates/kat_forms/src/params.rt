@@ -3,8 +3,8 @@
 ghost use Rattle.std.specs.Prelude.{◌≡◌, true, IfOk, map};
 ghost use Rattle.std.specs.List.{AllByRecursion};
 ghost use Rattle.kat_tree.specs.declared.tree.Tree.TheVariants as variant;
-ghost use Rattle.kat_ast.specs.Formed.{is_name, every, is_some, is_formed_param, are_formed_params};
-ghost use Rattle.kat_ast.specs.Written.{word, number, tree_of_param, tree_of_params};
+ghost use Rattle.kat_ast.specs.Parts.{is_name, every, is_some, word, number};
+ghost use Rattle.kat_ast.specs.Types.{is_formed_param, are_formed_params, tree_of_param, tree_of_params};
 ghost use Rattle.kat_forms.specs.Parts.{Fits};
 
 use crate::atoms::{name_in, number_in, type_in};

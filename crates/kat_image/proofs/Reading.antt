@@ -9,7 +9,7 @@ use Rattle.kat_value.specs.declared.value.Value.{Value}
 use Rattle.kat_value.specs.declared.value.Value.TheVariants.{Bits as BitsValue}
 use Rattle.kat_value.specs.Operations.{is_number}
 use Rattle.kat_value.specs.Widths.{is_width}
-use Rattle.kat_ast.specs.declared.decl.TypeName.TheVariants.{Bits}
+use Rattle.kat_ast.specs.declared.type_name.TypeName.TheVariants.{Bits}
 use Rattle.kat_ast.specs.Spec.{Spec}
 use Rattle.kat_syntax.specs.Tables.{registers_of}
 use Rattle.kat_syntax.specs.Cycle.{register_names}

@@ -16,7 +16,9 @@ use Rattle.kat_ast.specs.declared.expr.Expr.TheFolds.{map-Expr, fold-roll-Expr, 
 use Rattle.kat_ast.specs.declared.expr.Expr.TheViews.{roll-Expr}
 use Rattle.kat_syntax.specs.Tables.{Name}
 use Rattle.kat_syntax.specs.FirstForm.{is_first_op, expr_first, is_first_expr}
-use Rattle.kat_ast.specs.Formed.{every, arity_of, is_written, expr_formed, is_formed_expr}
+use Rattle.kat_value.specs.Words.{arity_of, is_written}
+use Rattle.kat_ast.specs.Parts.{every}
+use Rattle.kat_ast.specs.Expressions.{expr_formed, is_formed_expr}
 use Rattle.kat_value.specs.Signatures.{agree, may_be_bits, signature_of, takes}
 use Rattle.kat_value.specs.Widths.{is_width}
 use Rattle.kat_syntax.specs.Typing.{unless, Scope, local_type, Known, args_faults, first_arg_at, expr_faults, expr_known, known_of_expr}

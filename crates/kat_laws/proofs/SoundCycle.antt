@@ -6,17 +6,18 @@ use Rattle.std.specs.Str.{bytes_eq}
 use Rattle.std.proofs.lemmas.Bool.{and_parts, false≢true}
 use Rattle.kat_value.specs.declared.types.Ty.{Ty}
 use Rattle.kat_ast.specs.declared.stm.Stm.{Stm}
-use Rattle.kat_ast.specs.declared.decl.TypeName.TheVariants.{Unit as UnitName}
+use Rattle.kat_ast.specs.declared.type_name.TypeName.TheVariants.{Unit as UnitName}
 use Rattle.kat_ast.specs.declared.decl.DeclForm.{DeclForm}
 use Rattle.kat_ast.specs.declared.decl.DeclForm.TheVariants.{Fun}
 use Rattle.kat_ast.specs.Spec.{Spec}
 use Rattle.kat_syntax.specs.Tables.{Name, Function, function_at, function_from, step_name_of, step_function_of}
 use Rattle.kat_tree.specs.Preorder.{count_of}
-use Rattle.kat_ast.specs.Written.{tree_of_decl}
-use Rattle.kat_ast.specs.Trees.{trees_of_stm, trees_of_decl}
+use Rattle.kat_ast.specs.Statements.{trees_of_stm}
+use Rattle.kat_ast.specs.Declarations.{tree_of_decl, trees_of_decl}
 use Rattle.kat_syntax.specs.FirstForm.{is_first_stm, is_first_decl, are_first_decls}
-use Rattle.kat_ast.specs.Formed.{is_name, is_formed_stm}
-use Rattle.kat_ast.specs.WellFormed.{IsDecl}
+use Rattle.kat_ast.specs.Parts.{is_name}
+use Rattle.kat_ast.specs.Statements.{is_formed_stm}
+use Rattle.kat_ast.specs.Declarations.{IsDecl}
 use Rattle.kat_syntax.specs.Typing.{in_decl, known_of_stm, declared_by, decl_faults, inner_faults}
 use Rattle.kat_syntax.specs.Limits.{most_declarations}
 use Rattle.kat_syntax.specs.MeaningByParts.{PartsAreCounted}

@@ -17,7 +17,9 @@ use Rattle.kat_ast.specs.declared.expr.Expr.TheFolds.{map-Expr, fold-roll-Expr, 
 use Rattle.kat_ast.specs.declared.expr.Expr.TheViews.{roll-Expr}
 use Rattle.kat_syntax.specs.Tables.{Name}
 use Rattle.kat_syntax.specs.FirstForm.{is_first_op, expr_first, is_first_expr}
-use Rattle.kat_ast.specs.Formed.{every, arity_of, is_written, expr_formed, is_formed_expr}
+use Rattle.kat_value.specs.Words.{arity_of, is_written}
+use Rattle.kat_ast.specs.Parts.{every}
+use Rattle.kat_ast.specs.Expressions.{expr_formed, is_formed_expr}
 use Rattle.kat_value.specs.Signatures.{signature_of, takes, fixed_behind}
 use Rattle.kat_value.specs.Widths.{is_width}
 use Rattle.kat_syntax.specs.Typing.{unless, inside, Scope, local_type, Known, type_of_apply, args_faults, types_of_args, first_arg_at, expr_type, expr_faults, expr_known, known_of_expr}

@@ -12,8 +12,8 @@ use Rattle.kat_value.specs.declared.value.Value.TheOpen.{Value-F, Unit as UnitLa
 use Rattle.kat_value.specs.Typing.{HasType, has_type, layer_has_type}
 use Rattle.kat_value.specs.Operations.{is_number}
 use Rattle.kat_value.specs.Widths.{is_width}
-use Rattle.kat_ast.specs.declared.decl.TypeName.{TypeName}
-use Rattle.kat_ast.specs.declared.decl.TypeName.TheVariants.{Unit as UnitName, Bool as BoolName, Bits as BitsName, Named}
+use Rattle.kat_ast.specs.declared.type_name.TypeName.{TypeName}
+use Rattle.kat_ast.specs.declared.type_name.TypeName.TheVariants.{Unit as UnitName, Bool as BoolName, Bits as BitsName, Named}
 use Rattle.kat_text.specs.Hexadecimal.{hex_digits}
 use Rattle.kat_syntax.specs.StateText.{text_of_value}
 use Rattle.kat_laws.specs.States.{IsOfType}

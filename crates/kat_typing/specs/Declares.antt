@@ -1,6 +1,6 @@
 -- What declarations declare, one after another, as long as no name stands twice.
 use Rattle.std.specs.Prelude.{if◌then◌else◌, List, [], ◌∷◌, ◌++◌, Option, None, Some, option_and_then}
-use Rattle.kat_ast.specs.declared.decl.TypeName.{TypeName}
+use Rattle.kat_ast.specs.declared.type_name.TypeName.{TypeName}
 use Rattle.kat_ast.specs.declared.decl.DeclForm.{DeclForm}
 use Rattle.kat_ast.specs.declared.decl.DeclForm.TheVariants.{Register, Fun}
 use Rattle.kat_syntax.specs.Tables.{Name}

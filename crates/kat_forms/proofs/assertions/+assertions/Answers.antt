@@ -8,8 +8,7 @@ use Rattle.kat_forms.proofs.Lists.{both, one_more}
 use Rattle.kat_forms.proofs.PartsFit.{exact_fit, one_fit, part_among, part_fit, part_less, rest_fit, rest_less}
 use Rattle.kat_forms.proofs.Rebuilt.{form_of, next, nothing, others}
 use Rattle.kat_forms.proofs.AssertionForms.{asserted, fit_of, joined, tree-Star, formed-Star, tree-If, formed-If, tree-Exists, formed-Exists}
-use Rattle.kat_ast.specs.Formed.{is_formed_assertion}
-use Rattle.kat_ast.specs.Written.{tree_of_assertion}
+use Rattle.kat_ast.specs.Assertions.{is_formed_assertion, tree_of_assertion}
 use Rattle.kat_forms.specs.Fits.{judged}
 use Rattle.kat_forms.proofs.assertions.+assertions.Goals as goal
 

@@ -1,6 +1,5 @@
 use Rattle.std.proofs.Common.{◌+◌, ◌*◌, map}
-use Rattle.kat_ast.specs.Formed.{is_formed_assertion}
-use Rattle.kat_ast.specs.Written.{tree_of_assertion}
+use Rattle.kat_ast.specs.Assertions.{is_formed_assertion, tree_of_assertion}
 use Rattle.kat_forms.specs.Fits.{judged}
 use Rattle.kat_forms.proofs.Checking.{count_of_parts}
 use Rattle.kat_forms.proofs.Lists.{SoFar}

@@ -5,7 +5,7 @@ use Rattle.kat_tree.specs.declared.tree.Tree.TheVariants as variant
 use Rattle.kat_forms.specs.declared.sort.Sort.TheVariants as sort
 use Rattle.kat_forms.specs.Shapes.{exactly}
 use Rattle.kat_forms.proofs.DeclaredForms.{holds_one}
-use Rattle.kat_ast.specs.Written.{tree_of_assertion}
+use Rattle.kat_ast.specs.Assertions.{tree_of_assertion}
 use Rattle.kat_forms.proofs.declarations.entry_in.Goals as goal
 
 pub returns : goal.returns

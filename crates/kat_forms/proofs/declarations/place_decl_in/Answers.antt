@@ -1,7 +1,7 @@
 use Rattle.std.proofs.Common.{arith, refl, ◌∙◌}
 use Rattle.std.proofs.lemmas.List.{take_rest}
 use Rattle.kat_tree.specs.declared.tree.Tree.TheVariants as variant
-use Rattle.kat_ast.specs.Written.{number}
+use Rattle.kat_ast.specs.Parts.{number}
 use Rattle.kat_forms.specs.declared.heads.DeclHead.TheVariants as head
 use Rattle.kat_forms.specs.Heads.{word_of_decl}
 use Rattle.kat_forms.proofs.Lists.{both}

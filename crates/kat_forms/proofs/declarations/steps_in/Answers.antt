@@ -7,7 +7,7 @@ use Rattle.std.proofs.lemmas.Result.{IfOk-weaker}
 use Rattle.kat_tree.specs.declared.tree.Tree.TheVariants as variant
 use Rattle.kat_forms.specs.declared.sort.Sort.TheVariants as sort
 use Rattle.kat_forms.specs.Shapes.{many}
-use Rattle.kat_ast.specs.Written.{tree_of_stm}
+use Rattle.kat_ast.specs.Statements.{tree_of_stm}
 use Rattle.kat_forms.proofs.declarations.steps_in.Goals as goal
 
 pub stms_in-requires : goal.stms_in-requires

@@ -1,6 +1,5 @@
 use Rattle.std.proofs.Common.{arith}
-use Rattle.kat_ast.specs.Formed.{is_formed_when}
-use Rattle.kat_ast.specs.Written.{tree_of_when}
+use Rattle.kat_ast.specs.Declarations.{is_formed_when, tree_of_when}
 use Rattle.kat_forms.proofs.Lists.{one_more}
 use Rattle.kat_forms.proofs.declarations.whens_in.Goals as goal
 

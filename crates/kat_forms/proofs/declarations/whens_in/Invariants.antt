@@ -1,5 +1,4 @@
-use Rattle.kat_ast.specs.Formed.{is_formed_when}
-use Rattle.kat_ast.specs.Written.{tree_of_when}
+use Rattle.kat_ast.specs.Declarations.{is_formed_when, tree_of_when}
 use Rattle.kat_forms.proofs.Lists.{SoFar}
 use Rattle.kat_forms.proofs.declarations.whens_in.Given as goal
 

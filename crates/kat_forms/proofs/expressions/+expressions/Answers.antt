@@ -2,8 +2,9 @@
 use Rattle.std.proofs.Common.{[], ◌∷◌, ◌++◌, length, map, refl, ap, sym, ◌∙◌, arith}
 use Rattle.std.proofs.lemmas.List.{take_rest}
 use Rattle.kat_tree.specs.declared.tree.Tree.TheVariants as variant
-use Rattle.kat_ast.specs.Formed.{is_formed_expr}
-use Rattle.kat_ast.specs.Written.{form, word_of_op, numbers_before, tree_of_expr}
+use Rattle.kat_value.specs.Words.{word_of_op}
+use Rattle.kat_ast.specs.Parts.{form}
+use Rattle.kat_ast.specs.Expressions.{is_formed_expr, numbers_before, tree_of_expr}
 use Rattle.kat_forms.specs.declared.heads.ExprHead.TheVariants as head
 use Rattle.kat_forms.specs.declared.sort.Sort.TheVariants.{Word, Name, Expression}
 use Rattle.kat_forms.specs.Heads.{word_of_expr}

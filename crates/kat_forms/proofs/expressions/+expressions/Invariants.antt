@@ -1,6 +1,5 @@
 use Rattle.std.proofs.Common.{◌+◌, ◌*◌, map}
-use Rattle.kat_ast.specs.Formed.{is_formed_expr}
-use Rattle.kat_ast.specs.Written.{tree_of_expr}
+use Rattle.kat_ast.specs.Expressions.{is_formed_expr, tree_of_expr}
 use Rattle.kat_forms.specs.Fits.{judged}
 use Rattle.kat_forms.proofs.Checking.{count_of_parts}
 use Rattle.kat_forms.proofs.Lists.{SoFar}

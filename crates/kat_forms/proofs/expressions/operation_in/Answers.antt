@@ -1,6 +1,6 @@
 use Rattle.std.proofs.Common.{[], ◌∷◌, length, map, refl, ap, sym, ◌∙◌}
 use Rattle.std.proofs.lemmas.List.{take_rest}
-use Rattle.kat_ast.specs.Formed.{arity_of}
+use Rattle.kat_value.specs.Words.{arity_of}
 use Rattle.kat_forms.specs.declared.sort.Sort.TheVariants as sort
 use Rattle.kat_forms.specs.Shapes.{shape_of_expr, sorts_of}
 use Rattle.kat_forms.specs.Fits.{judged, list_fits}

@@ -1,6 +1,5 @@
 use Rattle.std.proofs.Common.{arith}
-use Rattle.kat_ast.specs.Formed.{is_name}
-use Rattle.kat_ast.specs.Written.{word}
+use Rattle.kat_ast.specs.Parts.{is_name, word}
 use Rattle.kat_forms.proofs.Lists.{one_more}
 use Rattle.kat_forms.proofs.params.names_of.Goals as goal
 

@@ -1,5 +1,4 @@
-use Rattle.kat_ast.specs.Formed.{is_name}
-use Rattle.kat_ast.specs.Written.{word}
+use Rattle.kat_ast.specs.Parts.{is_name, word}
 use Rattle.kat_forms.proofs.Lists.{SoFar}
 use Rattle.kat_forms.proofs.params.names_of.Given as goal
 

@@ -1,6 +1,5 @@
 use Rattle.std.proofs.Common.{arith}
-use Rattle.kat_ast.specs.Formed.{is_formed_param}
-use Rattle.kat_ast.specs.Written.{tree_of_param}
+use Rattle.kat_ast.specs.Types.{is_formed_param, tree_of_param}
 use Rattle.kat_forms.proofs.Lists.{one_more}
 use Rattle.kat_forms.proofs.params.params_of.Goals as goal
 

@@ -1,5 +1,4 @@
-use Rattle.kat_ast.specs.Formed.{is_formed_param}
-use Rattle.kat_ast.specs.Written.{tree_of_param}
+use Rattle.kat_ast.specs.Types.{is_formed_param, tree_of_param}
 use Rattle.kat_forms.proofs.Lists.{SoFar}
 use Rattle.kat_forms.proofs.params.params_of.Given as goal
 

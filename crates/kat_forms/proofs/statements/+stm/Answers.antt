@@ -1,7 +1,6 @@
 use Rattle.std.proofs.Common.{◌+◌, ◌∷◌, [], refl, ap, sym, subst, ◌∙◌, arith}
 use Rattle.kat_tree.specs.declared.tree.Tree.TheVariants as variant
-use Rattle.kat_ast.specs.Written.{tree_of_stm}
-use Rattle.kat_ast.specs.Formed.{is_formed_stm}
+use Rattle.kat_ast.specs.Statements.{tree_of_stm, is_formed_stm}
 use Rattle.kat_forms.specs.declared.sort.Sort.TheVariants as sort
 use Rattle.kat_forms.proofs.Rebuilt.{next, nothing, others}
 use Rattle.kat_forms.proofs.Lists.{SoFar, one_more}
