@@ -53,6 +53,13 @@ with_numbers (Zext _) (width ∷ []) = Zext width
 with_numbers (Sext _) (width ∷ []) = Sext width
 with_numbers op _ = op
 
+-- an operation with zeros for numbers
+abbrev pub bare : Op → Op
+bare (Slice hi lo) = Slice 0 0
+bare (Zext width) = Zext 0
+bare (Sext width) = Sext 0
+bare op = op
+
 -- how many arguments an operation takes
 abbrev pub arity_of : Op → ℕ
 arity_of Not = 1
@@ -64,7 +71,8 @@ arity_of (Get of field) = 1
 arity_of Ite = 3
 arity_of _ = 2
 
--- whether an operation is written so; `get` has two names in place of numbers, and is a form of its own
+-- whether an operation is written so: `get` has two names in place of numbers, and is a form of
+-- its own
 abbrev pub is_written : Op → Bool
 is_written (Get of field) = false
 is_written _ = true
@@ -72,13 +80,14 @@ is_written _ = true
 -- the operations that are written so, in the order of the language's list, with zeros for numbers
 abbrev pub written_ops : List Op
 written_ops =
-    Not ∷ And ∷ Or ∷ Eq ∷ Ult ∷ Ule ∷ Slt ∷ Sle ∷ Add ∷ Sub ∷ Mul ∷ Band ∷ Bor ∷ Bxor ∷ Bnot ∷ Shl ∷ Shr ∷ Sar
-    ∷ Slice 0 0 ∷ Cat ∷ Zext 0 ∷ Sext 0 ∷ Ite ∷ []
+    Not ∷ And ∷ Or ∷ Eq ∷ Ult ∷ Ule ∷ Slt ∷ Sle ∷ Add ∷ Sub ∷ Mul ∷ Band ∷ Bor ∷ Bxor ∷ Bnot
+    ∷ Shl ∷ Shr ∷ Sar ∷ Slice 0 0 ∷ Cat ∷ Zext 0 ∷ Sext 0 ∷ Ite ∷ []
 
 -- the first of these operations that has this word
 abbrev pub op_among : List Op → List ℕ → Option Op
 op_among [] word = None
-op_among (op ∷ ops) word = if bytes_eq word (word_of_op op) then Some op else op_among ops word
+op_among (op ∷ ops) word =
+    if bytes_eq word (word_of_op op) then Some op else op_among ops word
 
 -- the operation that a word begins, with zeros for numbers
 abbrev pub op_of_word : List ℕ → Option Op

@@ -45,7 +45,8 @@ pub fn word_of_op(op: Op) -> &'static str
     }
 }
 
-/// The operation that a word begins, with zeros for its numbers; none where it begins none. `get` is a form of its own.
+/// The operation that a word begins, with zeros for its numbers; none where it begins none.
+/// `get` is a form of its own.
 pub fn op_of_word(word: &str) -> Option<Op>
     ensures { result ≡ op_of_word word.now }
 {

@@ -1,0 +1,10 @@
+mod Layers
+mod Parts
+mod Positions
+mod Reading
+mod Misfits
+mod Judgements
+mod Later
+mod Going
+mod Operations
+mod Rests
