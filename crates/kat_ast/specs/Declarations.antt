@@ -1,4 +1,5 @@
--- Declarations: the tree of each, what each owes beside its parts, how many trees it has, and what each keeps.
+-- Declarations: the tree of each, what each owes beside its parts, how many trees it has, and what
+-- each keeps.
 use Rattle.std.specs.Prelude.{◌≡◌, ℕ, ◌+◌, ◌<◌, ◌≤◌, Bool, true, ◌&&◌, List, [], ◌∷◌, ◌++◌, length, map, sum_by, codes}
 use Rattle.std.specs.List.{AllByRecursion}
 use Rattle.kat_tree.specs.declared.tree.Tree.{Tree}
@@ -67,7 +68,8 @@ tree_of_decl (d.Predicate x inputs outputs definition) =
     form (codes "pred")
     (word x ∷ tree_of_params inputs ∷ tree_of_params outputs ∷ tree_of_assertion definition ∷ [])
 tree_of_decl (d.Fun x params result body) =
-    form (codes "fun") (word x ∷ tree_of_params params ∷ tree_of_type result ∷ tree_of_stm body ∷ [])
+    form (codes "fun")
+    (word x ∷ tree_of_params params ∷ tree_of_type result ∷ tree_of_stm body ∷ [])
 tree_of_decl (d.Contract f names pre x post) =
     form (codes "contract")
     (word f ∷ tree_of_params names ∷ holding (codes "pre") pre ∷ form (codes "res") (word x ∷ [])
@@ -164,8 +166,9 @@ trees_of_decl (d.Block block) =
     10 + trees_of_assertion block.entry + trees_of_expr block.change
 trees_of_decl (d.Boot x) = 3
 
--- Each name is a name token other than `true`, `false` and `unit`, no named type is `bool`, and each form
--- has its count of parts; the text nests at most 63 brackets, and has fewer than 2^32 trees.
+-- Each name is a name token other than `true`, `false` and `unit`, no named type is `bool`, and
+-- each form has its count of parts; the text nests at most 63 brackets, and has fewer than 2^32
+-- trees.
 pub record IsDecl (decl : DeclForm) : Type 0 where
   pub formed : is_formed_decl decl ≡ true
   pub tokens : AllByRecursion IsToken (tokens_of (tree_of_decl decl))

@@ -1,4 +1,5 @@
--- Types and parameters: the tree of each, what each owes beside its parts, and how many trees it has.
+-- Types and parameters: the tree of each, what each owes beside its parts, and how many trees it
+-- has.
 use Rattle.std.specs.Prelude.{ℕ, ◌+◌, Bool, true, ◌&&◌, not, List, [], ◌∷◌, map, sum_by, codes}
 use Rattle.std.specs.Str.{bytes_eq}
 use Rattle.kat_tree.specs.declared.tree.Tree.{Tree}

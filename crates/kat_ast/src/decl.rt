@@ -123,8 +123,8 @@ pub enum DeclForm {
         result: TypeName,
         body: Stm,
     },
-    /// `(contract f params (pre A) (res x) (post A))`: the names of a function's contract, its precondition, the
-    /// result's name and the postcondition.
+    /// `(contract f params (pre A) (res x) (post A))`: the names of a function's contract, its
+    /// precondition, the result's name and the postcondition.
     Contract {
         function: Text,
         names: Items<Param>,
@@ -132,7 +132,8 @@ pub enum DeclForm {
         result: Text,
         post: Assertion,
     },
-    /// `(lemma x params params (pre A) (post A) (steps S ..))`: a lemma with its parameters and its names.
+    /// `(lemma x params params (pre A) (post A) (steps S ..))`: a lemma with its parameters and its
+    /// names.
     Lemma {
         name: Text,
         params: Items<Param>,
@@ -143,7 +144,8 @@ pub enum DeclForm {
     },
     /// `(step f)`: the function that a cycle calls.
     Step(Text),
-    /// `(dispatch (when E phase) .. (else phase))`: the phase of a state, by the first true condition.
+    /// `(dispatch (when E phase) .. (else phase))`: the phase of a state, by the first true
+    /// condition.
     Dispatch {
         cases: Items<When>,
         otherwise: Phase,
@@ -156,9 +158,9 @@ pub enum DeclForm {
     Boot(Text),
 }
 
-/// A declaration of the language's text: each name in it is a name token other than `true`, `false` and `unit`, no
-/// type that it names is `bool`, each form has its count of parts, its text nests at most 63 brackets, and it has fewer
-/// than 2^32 trees. Contracts see it as its form.
+/// A declaration of the language's text: each name in it is a name token other than `true`, `false`
+/// and `unit`, no type that it names is `bool`, each form has its count of parts, its text nests at
+/// most 63 brackets, and it has fewer than 2^32 trees. Contracts see it as its form.
 #[derive(Drop)]
 pub struct Decl {
     form: DeclForm,
@@ -202,8 +204,8 @@ impl Decl {
     }
 }
 
-/// A specification of the language's text: the version that it is written in, and its declarations in the order of the
-/// text. Contracts see it as these two.
+/// A specification of the language's text: the version that it is written in, and its declarations
+/// in the order of the text. Contracts see it as these two.
 #[derive(Drop)]
 pub struct Spec {
     version: u64,

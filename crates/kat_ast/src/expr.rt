@@ -1,6 +1,7 @@
-//! Expressions, and how many trees each has: itself and all that stands in it, lists and atoms alike.
-//! The place of a form in its declaration is told by the counts of what stands before it, so no form
-//! stores its place. Counts stand still at the greatest u32, which no declaration comes near.
+//! Expressions, and how many trees each has: itself and all that stands in it, lists and atoms
+//! alike. The place of a form in its declaration is told by the counts of what stands before it, so
+//! no form stores its place. Counts stand still at the greatest u32, which no declaration comes
+//! near.
 
 ghost use Rattle.std.specs.Prelude.{◌≡◌, length};
 ghost use Rattle.kat_value.specs.Words.{numbers_of_op};

@@ -1,7 +1,8 @@
-//! The syntax of the language as data: one variant for each form of a type, expression, statement, assertion and
-//! declaration, and in `specs/` the one tree that each is written as, what each keeps, which tree describes which
-//! specification, and which bytes stand for it. A form is plain data; names are text, and nothing in it points to its
-//! declaration.
+//! The syntax of the language as data: one variant for each form of a type, expression, statement,
+//! assertion and declaration, and in `specs/`, kind by kind, the one tree that each is written as,
+//! what each owes beside its parts, and how many trees it has; which tree describes which
+//! specification, and which bytes stand for it. A form is plain data; names are text, and nothing
+//! in it points to its declaration.
 #![tactic(auto)]
 
 mod assertion;

@@ -60,12 +60,14 @@ pub enum Stm {
     Check(Expr),
     /// `(fail)`
     Fail,
-    /// `(open P E ..)`: a proof statement, which does nothing and gives unit. It has the predicate's inputs alone.
+    /// `(open P E ..)`: a proof statement, which does nothing and gives unit. It has the
+    /// predicate's inputs alone.
     Open {
         predicate: Text,
         inputs: Items<Expr>,
     },
-    /// `(close P E ..)`: a proof statement, which does nothing and gives unit. It has the predicate's inputs alone.
+    /// `(close P E ..)`: a proof statement, which does nothing and gives unit. It has the
+    /// predicate's inputs alone.
     Close {
         predicate: Text,
         inputs: Items<Expr>,
@@ -84,7 +86,8 @@ pub struct CaseArm<B> {
     pub body: B,
 }
 
-/// An arm `(K x S)` of a `match`: a constructor of the union, the name of its payload, and what is done for it.
+/// An arm `(K x S)` of a `match`: a constructor of the union, the name of its payload, and what is
+/// done for it.
 #[derive(Drop)]
 pub struct MatchArm<B> {
     pub ctor: Text,

@@ -1,12 +1,14 @@
-pub mod Finish
-pub mod Wording
-mod Outcomes
-mod OneOutcome
-mod Owed
-mod GivenStatus
-mod RefusedFile
-mod FormRow
-mod LongRow
-mod DoneRow
-mod Rows
-mod ToldRuns
+pub mod Asked
+pub mod Built
+pub mod Causes
+pub mod Doing
+pub mod Following
+pub mod Judged
+pub mod Loaded
+pub mod Outside
+pub mod Owed
+pub mod Rows
+pub mod Steps
+pub mod ToldRuns
+pub mod Trees
+pub mod Written

@@ -1,133 +1,237 @@
--- Where each status comes, from the answer to what came of the files.
-use Rattle.std.proofs.Common.{◌≡◌, ℕ, inl, List, [], ◌∷◌, ◌++◌, Option, None, Some, Result, Ok, Err, refl, ap, sym, subst, ◌∙◌}
-use Rattle.std.proofs.lemmas.List.{append-nil}
-use Rattle.kat_ast.specs.Spec.{Spec}
-use Rattle.kat_syntax.specs.Tables.{Name}
-use Rattle.kat_syntax.specs.Machine.{MachineState}
+-- Where each status comes.
+use Rattle.std.proofs.Common.{◌≡◌, ◌+◌, ◌⊎◌, inl, inr, List, [], ◌∷◌, ◌++◌, Option, None, Some, Ok, Err, refl, ap, sym, subst, ◌∙◌}
+use Rattle.kat_io.specs.Seen.{FilesSeen, SinkSeen}
+use Rattle.kat_words.specs.declared.asked.Job.{Job}
+use Rattle.kat_top.specs.declared.fault.Fault.{Fault}
+use Rattle.kat_top.specs.declared.fault.Fault.TheVariants as fault
+use Rattle.kat_top.specs.declared.inputs.InputError.{InputError}
+use Rattle.kat_top.specs.declared.inputs.InputError.TheVariants as why
 use Rattle.kat_top.specs.declared.status.Status.{Status}
 use Rattle.kat_top.specs.declared.status.Status.TheVariants as status
-use Rattle.kat_top.specs.declared.refusal.Refusal.{Refusal}
-use Rattle.kat_top.specs.declared.refusal.Refusal.TheVariants.{Failed, Long, Tree, Form, Unbuilt, Memory}
-use Rattle.kat_top.specs.Words.{Job, Run, Print}
+use Rattle.kat_top.specs.Answers.{Answer, answer_of_fault, answer_of_error, out_of_memory, IsWhole, Gives}
+use Rattle.kat_top.specs.Causes.{IsFromOutside, Tells, UsageComes, LongComes, FormComes, DoneComes, StatusesCome}
 use Rattle.kat_top.specs.FileLaws.{FileLaws}
-use Rattle.kat_top.specs.Files.{most_bytes, CauseOf, HasCause, Noted, ReadsMade, files_of, AddsReads}
-use Rattle.kat_top.specs.Answer.{Answer, refusal_of, print_answer, job_answer, answer_of, Gave, Answered, IfReadFault, IfTooLong}
-use Rattle.kat_top.specs.Causes.{AreTold, HasLongFile, HasNoForm, DoneWith, DoneWhole, ComesExactly}
-use Rattle.kat_top.proofs.Finish.{reads_one, reads_more}
-use Rattle.kat_top.proofs.GivenStatus.{IsOrOutside, given_comes, gave_as, IsDoneStatus, ran_status, done_is_plain, usage_only, if_read_fault, if_too_long}
-use Rattle.kat_top.proofs.FormRow.{form_comes_print, form_comes_run, form_only_print, form_only_run}
-use Rattle.kat_top.proofs.LongRow.{long_comes_print, long_comes_run, long_only_print, long_only_run}
-use Rattle.kat_top.proofs.DoneRow.{done_comes_print, done_comes_run, done_only_print, done_only_run}
+use Rattle.kat_top.specs.Given.{AnswersFrom, Answered}
+use Rattle.kat_top.specs.Inputs.{Name, Input, Thing, IsReadAs, most_bytes}
+use Rattle.kat_top.specs.Jobs.{Does, inputs_of}
+use Rattle.kat_top.specs.Judging.{Told, IsRefused, IsNothing, IsTooLong, Reaches, AtNext, AtEnd}
+use Rattle.kat_top.specs.Loading.{Came}
+use Rattle.kat_top.specs.Owed.{EndsWith, IsOwed}
+use Rattle.kat_top.specs.Statuses.{status_of_fault}
+use Rattle.kat_top.proofs.Doing.{one_doing, HasStatus, does_status, IsOfFile, no_file, is_usage, IsOfJob}
+use Rattle.kat_top.proofs.Following.{reaches_map, Arrives, follows, owed_from}
+use Rattle.kat_top.proofs.Judged.{refused_status, not_both}
+use Rattle.kat_top.proofs.Outside.{IsOutside, outside_before, stop_is, taken_is, same_bytes, few_or_many}
 
--- the reads that were made are those of the first files of the job
-pub noted_one : {A : Type 0} (outcome : Result A Refusal) (old new : List (Name × ℕ)) (name : Name) (more : List Name) → Noted outcome old new name → AddsReads (name ∷ more) old new
-noted_one (Ok a) old new name more noted = (1, noted)
-noted_one (Err refusal) old new name more noted = reads_one refusal old new name more noted
+-- an answer has this status, or something outside failed
+abbrev pub IsOrOutside : Status → Answer → FilesSeen → FilesSeen → Type 0
+IsOrOutside wanted answer before after = IsOutside answer before after ⊎ (answer.status ≡ wanted)
 
-pub reads_made : (job : Option Job) (spec : Result Spec Refusal) (start : Result MachineState Refusal) (old new : List (Name × ℕ)) → ReadsMade job spec start old new → AddsReads (files_of job) old new
-reads_made None spec start old new made = (0, made ∙ sym (append-nil old))
-reads_made (Some (Print name)) spec start old new made = noted_one spec old new name [] made
-reads_made (Some (Run job)) (Err refusal) start old new made = reads_one refusal old new job.spec (job.image ∷ []) made
-reads_made (Some (Run job)) (Ok spec) start old new made =
-    reads_more old (old ++ (job.spec, most_bytes) ∷ []) new job.spec (job.image ∷ []) refl (noted_one start (old ++ (job.spec, most_bytes) ∷ []) new job.image [] made)
+status_is : (answer : Answer) (said : Fault) (given : Status) → answer ≡ answer_of_fault said → status_of_fault said ≡ given → answer.status ≡ given
+status_is answer said given is has = ap (λ (a : Answer). a.status) is ∙ has
 
--- The rows of the statuses, for the program's one call.
+long_is : (answer : Answer) (name : Name) → answer ≡ answer_of_fault (fault.Long name (most_bytes + 1)) → answer.status ≡ status.TooLong
+long_is answer name is = ap (λ (a : Answer). a.status) is
 
-module _ (told : Name → Option (List ℕ)) (failed overlong : Type 0) (asked noted : List (Name × ℕ)) (given : Status) (old new : Option (List ℕ)) where
-  pub gave_of : (job : Option Job) (a : Answered job told failed overlong asked noted given old new) → Gave given old new (answer_of job a.1.spec a.1.start)
-  gave_of job a = subst (Gave given old new) a.1.answer_is a.2
+-- from a point that the judging comes to on to the whole call
+at_arrival : FileLaws → (job : Option Job) (P : List Thing → List Input → Type 0) (wanted : Status) (before after : FilesSeen) (answer : Answer) →
+    ((taken : List Thing) (rest : List Input) (between : FilesSeen) → between.told ≡ before.told → P taken rest → AnswersFrom job taken rest between after answer → IsOrOutside wanted answer between after) →
+    Reaches before.told P [] (inputs_of job) → AnswersFrom job [] (inputs_of job) before after answer → IsOrOutside wanted answer before after
+at_arrival laws job P wanted before after answer here reaches x =
+    elim (follows laws job P (inputs_of job) [] before after answer reaches x) [
+      | inl outside ↦ inl outside
+      | inr a ↦ elim (here a.taken a.rest a.between a.told a.here a.answers) [
+        | inl outside ↦ inl (outside_before answer before a.between after a.faults outside)
+        | inr is ↦ inr is
+      ]
+    ]
 
-  pub usage_row : (job : Option Job) → Answered job told failed overlong asked noted given old new → ComesExactly (Unit {0}) status.Usage given (job ≡ None) (job ≡ None)
-  usage_row job a = record {
-    comes = λ none. given_comes given status.Usage old new (answer_of job a.1.spec a.1.start) (gave_of job a) (inl (ap (λ (j : Option Job). (answer_of j a.1.spec a.1.start).status) none));
-    only = λ told is. usage_only job a.1.spec a.1.start (gave_as status.Usage given old new (answer_of job a.1.spec a.1.start) tt is (gave_of job a)).0;
+long_here : (job : Option Job) (told : Told) (taken : List Thing) (rest : List Input) (before after : FilesSeen) (answer : Answer) → before.told ≡ told →
+    AtNext (λ taken input. IsTooLong told input) taken rest → AnswersFrom job taken rest before after answer → IsOrOutside status.TooLong answer before after
+long_here job told taken [] before after answer is here x = absurd here
+long_here job told taken (input ∷ rest) before after answer is here (inl stop) =
+    let long = subst (λ t. IsTooLong t input) (sym is) here in
+    elim (stop_is taken input before after answer long.bytes long.is_told stop) [
+      | inl outside ↦ inl outside
+      | inr refused ↦ elim refused [
+        | inl r ↦ inr (long_is answer input.name r.1)
+        | inr r ↦ absurd (few_or_many before.told input r.1.bytes long.bytes r.1.is_told long.is_told r.1.few long.many)
+      ]
+    ]
+long_here job told taken (input ∷ rest) before after answer is here (inr (thing, between, loads, x)) =
+    let long = subst (λ t. IsTooLong t input) (sym is) here in
+    let as_taken = taken_is taken input thing before between long.bytes long.is_told loads in
+    absurd (few_or_many before.told input as_taken.bytes long.bytes as_taken.is_told long.is_told as_taken.few long.many)
+
+nothing_here : (job : Option Job) (told : Told) (taken : List Thing) (rest : List Input) (before after : FilesSeen) (answer : Answer) → before.told ≡ told →
+    AtNext (λ taken input. IsNothing told taken input) taken rest → AnswersFrom job taken rest before after answer → IsOrOutside status.Form answer before after
+nothing_here job told taken [] before after answer is here x = absurd here
+nothing_here job told taken (input ∷ rest) before after answer is here (inl stop) =
+    let none = subst (λ t. IsNothing t taken input) (sym is) here in
+    elim (stop_is taken input before after answer none.bytes none.is_told stop) [
+      | inl outside ↦ inl outside
+      | inr refused ↦ elim refused [
+        | inl r ↦ absurd (few_or_many before.told input none.bytes r.0.bytes none.is_told r.0.is_told none.few r.0.many)
+        | inr r ↦ inr (status_is answer r.0 status.Form r.2 (refused_status taken input.kind r.1.bytes r.0 r.1.refuses))
+      ]
+    ]
+nothing_here job told taken (input ∷ rest) before after answer is here (inr (thing, between, loads, x)) =
+    let none = subst (λ t. IsNothing t taken input) (sym is) here in
+    let as_taken = taken_is taken input thing before between none.bytes none.is_told loads in
+    let same = same_bytes (before.told input.name) as_taken.bytes none.bytes as_taken.is_told none.is_told in
+    absurd (none.nothing thing (subst (λ bytes. IsReadAs taken input.kind bytes thing) same as_taken.reads))
+
+done_here : (job : Option Job) (owed : Answer) (wanted : Status) (taken : List Thing) (rest : List Input) (before after : FilesSeen) (answer : Answer) → owed.status ≡ wanted →
+    AtEnd (λ things. Does job things owed) taken rest → AnswersFrom job taken rest before after answer → IsOrOutside wanted answer before after
+done_here job owed wanted taken [] before after answer is here x = inr (ap (λ (a : Answer). a.status) (one_doing job taken answer owed x.1 here) ∙ is)
+done_here job owed wanted taken (input ∷ rest) before after answer is here x = absurd here
+
+-- an answer that is owed with the status of a file that is too long shows one
+long_ends : (job : Option Job) (told : Told) (answer : Answer) → answer.status ≡ status.TooLong → (taken : List Thing) (rest : List Input) →
+    EndsWith job told answer taken rest → AtNext (λ taken input. IsTooLong told input) taken rest
+long_ends job told answer is taken [] does = absurd (no_file job status.TooLong (subst (HasStatus job) is (does_status job taken answer does)) tt)
+long_ends job told answer is taken (input ∷ rest) (inl long) = long.0
+long_ends job told answer is taken (input ∷ rest) (inr (said, refused, said_is)) =
+    let has = status_is answer said status.Form said_is (refused_status taken input.kind refused.bytes said refused.refuses) in absurd (cc)
+
+nothing_ends : FileLaws → (job : Option Job) (told : Told) (answer : Answer) → answer.status ≡ status.Form → (taken : List Thing) (rest : List Input) →
+    EndsWith job told answer taken rest → AtNext (λ taken input. IsNothing told taken input) taken rest
+nothing_ends laws job told answer is taken [] does = absurd (no_file job status.Form (subst (HasStatus job) is (does_status job taken answer does)) tt)
+nothing_ends laws job told answer is taken (input ∷ rest) (inl long) =
+    let has = long_is answer input.name long.1 in absurd (cc)
+nothing_ends laws job told answer is taken (input ∷ rest) (inr (said, refused, said_is)) = record {
+  bytes = refused.bytes;
+  is_told = refused.is_told;
+  few = refused.few;
+  nothing = λ thing reads. not_both laws taken input.kind refused.bytes thing said reads refused.refuses;
+}
+
+done_ends : (job : Option Job) (told : Told) (answer : Answer) → IsOfJob answer.status → (taken : List Thing) (rest : List Input) →
+    EndsWith job told answer taken rest → AtEnd (λ things. Does job things answer) taken rest
+done_ends job told answer is taken [] does = does
+done_ends job told answer is taken (input ∷ rest) (inl long) = absurd (subst IsOfJob (long_is answer input.name long.1) is)
+done_ends job told answer is taken (input ∷ rest) (inr (said, refused, said_is)) =
+    absurd (subst IsOfJob (status_is answer said status.Form said_is (refused_status taken input.kind refused.bytes said refused.refuses)) is)
+
+-- the status that was given is the answer's, or something outside failed
+pub given_is : (given : Status) (old new : SinkSeen) (answer : Answer) → Gives answer given old new → (given ≡ answer.status) ⊎ IsFromOutside given
+given_is status.WriteFault old new answer gives = inr tt
+given_is status.Memory old new answer gives = inr tt
+given_is given old new answer gives = inl gives.whole.status_is
+
+pub is_from_outside : (answer : Answer) (before after : FilesSeen) → IsOutside answer before after → IsFromOutside answer.status
+is_from_outside answer before after (inl read) = subst IsFromOutside (sym read.0) tt
+is_from_outside answer before after (inr memory) = subst IsFromOutside (sym (ap (λ (a : Answer). a.status) memory)) tt
+
+comes : (wanted given : Status) (before after : FilesSeen) (old new : SinkSeen) (answer : Answer) → Gives answer given old new → IsOrOutside wanted answer before after → (given ≡ wanted) ⊎ IsFromOutside given
+comes wanted given before after old new answer gives is = elim (given_is given old new answer gives) [
+  | inr outside ↦ inr outside
+  | inl same ↦ elim is [
+    | inl outside ↦ inr (subst IsFromOutside (sym same) (is_from_outside answer before after outside))
+    | inr has ↦ inl (same ∙ has)
+  ]
+]
+
+-- a status that comes of nothing outside is the answer's, which was given whole
+abbrev pub IsInside : Status → Type 0
+IsInside status.ReadFault = ⊥
+IsInside status.WriteFault = ⊥
+IsInside status.Memory = ⊥
+IsInside _ = Unit {0}
+
+inside_or_not : (given : Status) → IsInside given → IsFromOutside given → ⊥
+inside_or_not status.ReadFault x y = x
+inside_or_not status.WriteFault x y = x
+inside_or_not status.Memory x y = x
+inside_or_not _ x y = y
+
+whole_if_inside : (given : Status) (old new : SinkSeen) (answer : Answer) → IsInside given → Gives answer given old new → IsWhole answer given old new
+whole_if_inside status.ReadFault old new answer inside gives = absurd inside
+whole_if_inside status.WriteFault old new answer inside gives = absurd inside
+whole_if_inside status.Memory old new answer inside gives = absurd inside
+whole_if_inside given old new answer inside gives = gives.whole
+
+-- an input that is not taken is not answered `usage`
+stop_no_usage : (earlier : List Thing) (input : Input) (error : InputError) (before after : FilesSeen) → Came earlier input (Err error) before after → (answer_of_error error).status ≡ status.Usage → ⊥
+stop_no_usage earlier input why.Memory before after came is = absurd (cc)
+stop_no_usage earlier input (why.Fault said) before after (inl failed) is = let e = ap status_of_fault failed.said_is in absurd (cc)
+stop_no_usage earlier input (why.Fault said) before after (inr (inl long)) is = let e = ap status_of_fault long.said_is in absurd (cc)
+stop_no_usage earlier input (why.Fault said) before after (inr (inr refused)) is =
+    let e = refused_status earlier input.kind refused.bytes said refused.refuses in absurd (cc)
+
+usage_only : (job : Option Job) (inputs : List Input) (earlier : List Thing) (before after : FilesSeen) (answer : Answer) → answer.status ≡ status.Usage →
+    AnswersFrom job earlier inputs before after answer → job ≡ None
+usage_only job [] earlier before after answer is x = is_usage job (subst (HasStatus job) is (does_status job earlier answer x.1))
+usage_only job (input ∷ rest) earlier before after answer is (inl stop) =
+    absurd (stop_no_usage earlier input stop.error before after stop.loads.came (sym (ap (λ (a : Answer). a.status) stop.answer_is) ∙ is))
+usage_only job (input ∷ rest) earlier before after answer is (inr (thing, between, loads, x)) =
+    usage_only job rest (earlier ++ thing ∷ []) between after answer is x
+
+usage_comes : (job : Option Job) (before after : FilesSeen) (answer : Answer) → job ≡ None → AnswersFrom job [] (inputs_of job) before after answer → IsOrOutside status.Usage answer before after
+usage_comes None before after answer is x = inr (ap (λ (a : Answer). a.status) x.1)
+usage_comes (Some job) before after answer is x = absurd (cc)
+
+module _ (laws : FileLaws) (job : Option Job) (before after : FilesSeen) (given : Status) (old new : SinkSeen) (x : Answered job before after given old new) where
+  -- the answer is owed, with a status that comes of nothing outside
+  owed_as : (wanted : Status) → IsInside wanted → given ≡ wanted → Tells job before.told → IsOwed job before.told x.answer × (x.answer.status ≡ wanted) × IsWhole x.answer given old new
+  owed_as wanted inside is told =
+      let whole = whole_if_inside given old new x.answer (subst IsInside (sym is) inside) x.gives in
+      let has = sym whole.status_is ∙ is in
+      elim (owed_from job (inputs_of job) [] before after x.answer x.answers told) [
+        | inl outside ↦ absurd (inside_or_not wanted inside (subst IsFromOutside has (is_from_outside x.answer before after outside)))
+        | inr owed ↦ (owed, has, whole)
+      ]
+
+  long_row : LongComes job before.told given
+  long_row = record {
+    comes = λ long.
+        comes status.TooLong given before after old new x.answer x.gives
+        (at_arrival laws job (AtNext (λ taken input. IsTooLong before.told input)) status.TooLong before after x.answer
+        (λ taken rest between. long_here job before.told taken rest between after x.answer) long x.answers);
+    only = λ told is.
+        let owed = owed_as status.TooLong tt is told in
+        reaches_map before.told (EndsWith job before.told x.answer) (AtNext (λ taken input. IsTooLong before.told input)) (long_ends job before.told x.answer owed.1) (inputs_of job) [] owed.0;
   }
 
-  pub long_row : FileLaws → (job : Option Job) → Answered job told failed overlong asked noted given old new → ComesExactly (AreTold job told) status.TooLong given (HasLongFile job told) (HasLongFile job told)
-  long_row laws None a = record { comes = λ cause. absurd cause; only = λ told is. let e = (gave_as status.TooLong given old new (answer_of None a.1.spec a.1.start) tt is (gave_of None a)).0 in absurd (cc) }
-  long_row laws (Some (Print name)) a = record {
-    comes = λ cause. given_comes given status.TooLong old new (print_answer name a.1.spec) (gave_of (Some (Print name)) a) (long_comes_print laws name (told name) a.1.spec cause a.1.as_told);
-    only = λ has is. long_only_print laws name (told name) a.1.spec has a.1.as_told (gave_as status.TooLong given old new (print_answer name a.1.spec) tt is (gave_of (Some (Print name)) a)).0;
-  }
-  long_row laws (Some (Run job)) a = record {
-    comes = λ cause. given_comes given status.TooLong old new (job_answer job a.1.spec a.1.start) (gave_of (Some (Run job)) a) (long_comes_run laws job (told job.spec) (told job.image) a.1.spec a.1.start cause a.1.as_told.0 a.1.as_told.1);
-    only = λ has is. long_only_run laws job (told job.spec) (told job.image) a.1.spec a.1.start has.0 has.1 a.1.as_told.0 a.1.as_told.1 (gave_as status.TooLong given old new (job_answer job a.1.spec a.1.start) tt is (gave_of (Some (Run job)) a)).0;
-  }
-
-  pub form_row : FileLaws → (job : Option Job) → Answered job told failed overlong asked noted given old new → ComesExactly (AreTold job told) status.Form given (HasNoForm job told) (HasNoForm job told)
-  form_row laws None a = record { comes = λ cause. absurd cause; only = λ told is. let e = (gave_as status.Form given old new (answer_of None a.1.spec a.1.start) tt is (gave_of None a)).0 in absurd (cc) }
-  form_row laws (Some (Print name)) a = record {
-    comes = λ cause. given_comes given status.Form old new (print_answer name a.1.spec) (gave_of (Some (Print name)) a) (form_comes_print laws name (told name) a.1.spec cause a.1.as_told);
-    only = λ has is. form_only_print laws name (told name) a.1.spec has a.1.as_told (gave_as status.Form given old new (print_answer name a.1.spec) tt is (gave_of (Some (Print name)) a)).0;
-  }
-  form_row laws (Some (Run job)) a = record {
-    comes = λ cause. given_comes given status.Form old new (job_answer job a.1.spec a.1.start) (gave_of (Some (Run job)) a) (form_comes_run laws job (told job.spec) (told job.image) a.1.spec a.1.start cause a.1.as_told.0 a.1.as_told.1);
-    only = λ has is. form_only_run laws job (told job.spec) (told job.image) a.1.spec a.1.start has.0 has.1 a.1.as_told.0 a.1.as_told.1 (gave_as status.Form given old new (job_answer job a.1.spec a.1.start) tt is (gave_of (Some (Run job)) a)).0;
+  form_row : FormComes job before.told given
+  form_row = record {
+    comes = λ none.
+        comes status.Form given before after old new x.answer x.gives
+        (at_arrival laws job (AtNext (λ taken input. IsNothing before.told taken input)) status.Form before after x.answer
+        (λ taken rest between. nothing_here job before.told taken rest between after x.answer) none x.answers);
+    only = λ told is.
+        let owed = owed_as status.Form tt is told in
+        reaches_map before.told (EndsWith job before.told x.answer) (AtNext (λ taken input. IsNothing before.told taken input)) (nothing_ends laws job before.told x.answer owed.1) (inputs_of job) [] owed.0;
   }
 
-  pub done_comes : FileLaws → (wanted : Status) (job : Option Job) → Answered job told failed overlong asked noted given old new → DoneWith wanted job told → IsOrOutside wanted given
-  done_comes laws wanted None a (answer, done, is) = absurd done
-  done_comes laws wanted (Some (Print name)) a (answer, done, is) =
-      given_comes given wanted old new (print_answer name a.1.spec) (gave_of (Some (Print name)) a)
-      (done_comes_print laws wanted name (told name) a.1.spec done.0 done.1 (ap (λ (r : Answer). r.status) (sym done.2) ∙ is) a.1.as_told)
-  done_comes laws wanted (Some (Run job)) a (answer, done, is) =
-      given_comes given wanted old new (job_answer job a.1.spec a.1.start) (gave_of (Some (Run job)) a)
-      (done_comes_run laws wanted job (told job.spec) (told job.image) a.1.spec a.1.start done.0 done.1 done.2 done.3 (ap (λ (r : Answer). r.status) (sym done.4) ∙ is) a.1.as_told.0 a.1.as_told.1)
+  done_row : (wanted : Status) → IsInside wanted → IsOfJob wanted → DoneComes wanted job before.told given old new
+  done_row wanted inside of_job = record {
+    comes = λ done.
+        comes wanted given before after old new x.answer x.gives
+        (at_arrival laws job (AtEnd (λ things. Does job things done.0)) wanted before after x.answer
+        (λ taken rest between told. done_here job done.0 wanted taken rest between after x.answer done.2) done.1 x.answers);
+    only = λ told is.
+        let owed = owed_as wanted inside is told in (
+          x.answer,
+          reaches_map before.told (EndsWith job before.told x.answer) (AtEnd (λ things. Does job things x.answer)) (done_ends job before.told x.answer (subst IsOfJob (sym owed.1) of_job)) (inputs_of job) [] owed.0,
+          owed.2,
+        );
+  }
 
-  pub done_only : (wanted : Status) (job : Option Job) → IsDoneStatus wanted → Answered job told failed overlong asked noted given old new → AreTold job told → given ≡ wanted → DoneWhole wanted job told old new
-  done_only wanted None done a has is =
-      let gave = gave_as wanted given old new (answer_of None a.1.spec a.1.start) (done_is_plain wanted done) is (gave_of None a) in
-      absurd (subst IsDoneStatus (sym gave.0) done)
-  done_only wanted (Some (Print name)) done a has is =
-      let gave = gave_as wanted given old new (print_answer name a.1.spec) (done_is_plain wanted done) is (gave_of (Some (Print name)) a) in
-      let found = done_only_print name (told name) a.1.spec has a.1.as_told (subst IsDoneStatus (sym gave.0) done) in
-      (print_answer name a.1.spec, (found.0, found.1, found.2), gave.0, gave.1)
-  done_only wanted (Some (Run job)) done a has is =
-      let gave = gave_as wanted given old new (job_answer job a.1.spec a.1.start) (done_is_plain wanted done) is (gave_of (Some (Run job)) a) in
-      let found = done_only_run job (told job.spec) (told job.image) a.1.spec a.1.start has.0 has.1 a.1.as_told.0 a.1.as_told.1 (subst IsDoneStatus (sym gave.0) done) in
-      (job_answer job a.1.spec a.1.start, (found.0, found.1, found.2, found.3, found.4), gave.0, gave.1)
+  usage_row : UsageComes job given
+  usage_row = record {
+    comes = λ none. comes status.Usage given before after old new x.answer x.gives (usage_comes job before after x.answer none x.answers);
+    only = λ _ is.
+        let whole = whole_if_inside given old new x.answer (subst IsInside (sym is) tt) x.gives in
+        usage_only job (inputs_of job) [] before after x.answer (sym whole.status_is ∙ is) x.answers;
+  }
 
-  pub done_row : FileLaws → (wanted : Status) (job : Option Job) → IsDoneStatus wanted → Answered job told failed overlong asked noted given old new →
-      ComesExactly (AreTold job told) wanted given (DoneWith wanted job told) (DoneWhole wanted job told old new)
-  done_row laws wanted job done a = record { comes = done_comes laws wanted job a; only = done_only wanted job done a }
-
-  -- a status of a read has the cause that the read had
-  pub failed_of : (name : Name) (refusal : Refusal) → CauseOf refusal failed overlong → status.ReadFault ≡ (refusal_of name refusal).status → failed
-  failed_of name Failed cause is = cause
-  failed_of name Long cause is = absurd (cc)
-  failed_of name Memory cause is = absurd (cc)
-  failed_of name (Tree kind offset) cause is = absurd (cc)
-  failed_of name (Form place wanted) cause is = absurd (cc)
-  failed_of name Unbuilt cause is = absurd (cc)
-
-  pub overlong_of : (name : Name) (refusal : Refusal) → CauseOf refusal failed overlong → status.TooLong ≡ (refusal_of name refusal).status → overlong
-  overlong_of name Long cause is = cause
-  overlong_of name Failed cause is = absurd (cc)
-  overlong_of name Memory cause is = absurd (cc)
-  overlong_of name (Tree kind offset) cause is = absurd (cc)
-  overlong_of name (Form place wanted) cause is = absurd (cc)
-  overlong_of name Unbuilt cause is = absurd (cc)
-
-  -- a status that comes of refusals of files alone, for this cause of theirs
-  pub of_refusals : (wanted : Status) (cause : Type 0) → (IsDoneStatus wanted → ⊥) → (wanted ≡ status.Usage → ⊥) →
-      ((name : Name) (refusal : Refusal) → CauseOf refusal failed overlong → wanted ≡ (refusal_of name refusal).status → cause) →
-      (job : Option Job) (spec : Result Spec Refusal) (start : Result MachineState Refusal) → HasCause spec failed overlong → HasCause start failed overlong → wanted ≡ (answer_of job spec start).status → cause
-  of_refusals wanted cause undone unasked of None spec start p q is = absurd (unasked is)
-  of_refusals wanted cause undone unasked of (Some (Print name)) (Err refusal) start p q is = of name refusal p is
-  of_refusals wanted cause undone unasked of (Some (Print name)) (Ok spec) start p q is = absurd (undone (subst IsDoneStatus (sym is) tt))
-  of_refusals wanted cause undone unasked of (Some (Run job)) (Err refusal) start p q is = of job.spec refusal p is
-  of_refusals wanted cause undone unasked of (Some (Run job)) (Ok spec) (Err refusal) p q is = of job.image refusal q is
-  of_refusals wanted cause undone unasked of (Some (Run job)) (Ok spec) (Ok state) p q is = absurd (undone (ran_status job spec state wanted (sym is)))
-
-  pub read_row : (job : Option Job) → Answered job told failed overlong asked noted given old new → IfReadFault given failed
-  read_row job a =
-      if_read_fault given failed (λ is. of_refusals status.ReadFault failed (λ done. done) (λ e. absurd (cc)) failed_of job a.1.spec a.1.start a.1.spec_cause a.1.start_cause
-      (sym (gave_as status.ReadFault given old new (answer_of job a.1.spec a.1.start) tt is (gave_of job a)).0))
-
-  pub overlong_row : (job : Option Job) → Answered job told failed overlong asked noted given old new → IfTooLong given overlong
-  overlong_row job a =
-      if_too_long given overlong (λ is. of_refusals status.TooLong overlong (λ done. done) (λ e. absurd (cc)) overlong_of job a.1.spec a.1.start a.1.spec_cause a.1.start_cause
-      (sym (gave_as status.TooLong given old new (answer_of job a.1.spec a.1.start) tt is (gave_of job a)).0))
-
-  pub reads_row : (job : Option Job) → Answered job told failed overlong asked noted given old new → AddsReads (files_of job) asked noted
-  reads_row job a = reads_made job a.1.spec a.1.start asked noted a.1.reads
+  pub statuses : StatusesCome job before.told given old new
+  statuses = record {
+    usage = usage_row;
+    long = long_row;
+    form = form_row;
+    out_of_calls = done_row status.Out tt tt;
+    failed = done_row status.Failed tt tt;
+    ok = done_row status.Ok tt tt;
+  }

@@ -5,13 +5,14 @@ use Rattle.kat_ast.specs.Spec.{Spec}
 use Rattle.kat_syntax.specs.Run.{Cycle, Run}
 use Rattle.kat_syntax.specs.StateText.{state_text_of}
 use Rattle.kat_laws.specs.Soundness.{CanRun, Setup, TextTellsItsRun, BeginningTellsItsRun}
-use Rattle.kat_image.specs.States.{ImagesAreStates}
+use Rattle.kat_laws.specs.Images.{ImagesAreStates}
+use Rattle.kat_words.specs.Limits.{most_cycles}
 use Rattle.kat_top.specs.Told.{IsToldRun, TextTellsToldRun, BeginningTellsToldRun}
 
 can_run : (spec : Spec) (run : Run) → IsToldRun spec run → CanRun spec
-can_run spec run told = let machine = told.machine.stands in record { first = machine.1; written = machine.0.described.kept.decls }
+can_run spec run told = record { runnable = told.machine.runnable; written = told.machine.reads.described.kept.decls }
 
-few_events : (n : ℕ) → n ≤ 1000000 → length (replicate n Cycle) < 2 ^ 64
+few_events : (n : ℕ) → n ≤ most_cycles → length (replicate n Cycle) < 2 ^ 64
 few_events n few = let counted : length (replicate n Cycle) ≡ n = length-replicate n Cycle in omega arith
 
 unfoldable setup : ImagesAreStates → (spec : Spec) (run : Run) → IsToldRun spec run → Setup spec
@@ -19,7 +20,7 @@ setup images spec run told = record {
   calls = told.calls;
   start = told.start;
   events = replicate told.cycles Cycle;
-  is_state = images spec told.state.bytes told.start told.machine.stands.1 told.state.stands;
+  is_state = images spec told.image told.start told.machine.runnable told.state;
   few = few_events told.cycles told.few;
 }
 

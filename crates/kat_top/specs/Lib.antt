@@ -1,10 +1,13 @@
-pub mod Answer
+pub mod Answers
 pub mod Causes
 pub mod Complete
+pub mod Faults
 pub mod FileLaws
-pub mod Files
+pub mod Given
+pub mod Inputs
 pub mod Jobs
-pub mod Refusals
+pub mod Judging
+pub mod Loading
+pub mod Owed
 pub mod Statuses
 pub mod Told
-pub mod Words

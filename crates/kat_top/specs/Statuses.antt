@@ -1,5 +1,7 @@
--- The numbers that the system is told.
+-- How the program ends: the numbers that the system is told, and the status of each fault.
 use Rattle.std.specs.Prelude.{ℕ}
+use Rattle.kat_top.specs.declared.fault.Fault.{Fault}
+use Rattle.kat_top.specs.declared.fault.Fault.TheVariants as fault
 use Rattle.kat_top.specs.declared.status.Status.{Status}
 use Rattle.kat_top.specs.declared.status.Status.TheVariants as status
 
@@ -19,3 +21,14 @@ number_of_status status.Out = 10
 number_of_status status.Failed = 11
 number_of_status status.BadPoke = 12
 number_of_status status.Memory = 13
+
+-- the status with which the line of a fault is said
+abbrev pub status_of_fault : Fault → Status
+status_of_fault fault.Usage = status.Usage
+status_of_fault (fault.Read name) = status.ReadFault
+status_of_fault (fault.Long name taken) = status.TooLong
+status_of_fault (fault.Tree kind offset) = status.Form
+status_of_fault (fault.Form place wanted) = status.Form
+status_of_fault fault.Unbuilt = status.Form
+status_of_fault (fault.Out cycle) = status.Out
+status_of_fault (fault.Failed cycle site) = status.Failed

@@ -1,15 +1,18 @@
-//! The whole program behind one call: from the words and the bytes of the files to the bytes that are written and
-//! the status. Its modules read the words, the files and the specification, and say what comes of them.
+//! The whole program behind one call: from the words and the bytes of the files to the bytes that
+//! are written and the status. A job is a list of inputs, judged in order, and what is done with
+//! them (`specs/Jobs`); `inputs` loads them, `jobs` does what is done, `say` writes it, and `fault`
+//! has the line of each fault.
 #![tactic(auto)]
 
-mod files;
-mod law;
+mod fault;
+mod inputs;
+mod jobs;
+mod laws;
 mod program;
-mod refusal;
 mod say;
 mod status;
-mod words;
 
-pub use law::{one_answer, text_tells_told_run};
+pub use fault::{Fault, TreeKind, fault_text};
+pub use laws::{one_answer, text_tells_told_run};
 pub use program::top;
 pub use status::Status;

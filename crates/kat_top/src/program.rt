@@ -1,180 +1,142 @@
-// The whole program as one call.
+//! The whole program as one call.
 
-ghost use Rattle.std.specs.Prelude.{◌≡◌, ◌≤◌, Some, None, ⊤};
-ghost use Rattle.kat_io.specs.Counts.{Rose};
-ghost use Rattle.kat_top.specs.Answer.{Answered, AnsweredFrom, Gave, WrotePrefix, IfWriteFault, IfReadFault, IfTooLong, run_answer_of};
-ghost use Rattle.kat_top.specs.Causes.{ComesExactly, LongComes, FormComes, DoneComes};
+ghost use Rattle.std.specs.Prelude.{◌≡◌, [], ◌∷◌, Some, not};
+ghost use Rattle.std.specs.List.{list_any};
+ghost use Rattle.kat_words.specs.declared.asked.Job.TheVariants as job;
+ghost use Rattle.kat_top.specs.Causes.{StatusesCome};
 ghost use Rattle.kat_top.specs.Complete.{IsComplete};
-ghost use Rattle.kat_top.specs.Files.{AddsReads, files_of};
-ghost use Rattle.kat_top.specs.Jobs.{asked, seen_run};
-ghost use Rattle.kat_top.specs.Words.{Run, Print};
+ghost use Rattle.kat_top.specs.Given.{Answered, HasCauses, Keeps, ReadsMade};
+ghost use Rattle.kat_top.specs.Jobs.{asked, done_of, is_reserved};
 
-use crate::files::{load_image, load_machine, load_spec};
-use crate::law::file_laws;
-use crate::say::{refuse, say, say_canonical, say_failed, say_out};
+use crate::fault::Fault;
+use crate::jobs::{print_file, run_files};
+use crate::laws::file_laws;
+use crate::say::say_fault;
 use crate::status::Status;
-use crate::words::{Job, RunJob, asked_job};
 use kat_io::{Files, Sink};
-use kat_runner::{RunEnd, run};
-use kat_state::State;
-use kat_syntax::Checked;
+use kat_text::Text;
+use kat_words::{Devices, Job, WordsError, job};
 use std::alloc::Global;
 
-// Runs a machine from a state.
-fn run_from<K: Sink>(
-    alloc: Global,
-    job: &RunJob<'_>,
-    machine: &Checked,
-    start: State,
-    out: &mut K,
-) -> Status
-    ensures faults { K.faults out.old ≤ K.faults out.new }
-    ensures gave { Gave result (K.contents out.old) (K.contents out.new) (run_answer_of (seen_run job.now) machine.now start) }
-    ensures write { IfWriteFault result (Rose (K.faults out.old) (K.faults out.new)) }
+/// The whole program: does the job of the words, reads the files that they name, writes the answer,
+/// and gives the status with which the program ends.
+pub fn top<F: Files, K: Sink>(alloc: Global, words: &[String], files: &mut F, out: &mut K) -> Status
+    // What was given is the answer to the words, for what the bytes of the files were read as: the
+    // files are asked for in turn, each judged before the next; and with every status a prefix of
+    // its text was written.
+    ensures answer { Answered (asked words.now) (F.seen files.old) (F.seen files.new)
+        result (K.seen out.old) (K.seen out.new) }
+
+    // Where the files tell their bytes and no count of faults rose, the answer that they owe is
+    // given whole, or memory ran out.
+    ensures complete { IsComplete (asked words.now) (F.seen files.old) (F.seen files.new)
+        result (K.seen out.old) (K.seen out.new) }
+
+    // Each status comes wherever it has its cause, unless something outside fails, and only there.
+    ensures statuses { StatusesCome (asked words.now) (F.seen files.old).told
+        result (K.seen out.old) (K.seen out.new) }
+
+    // A fault of reading or writing and a file that is too long come only where the count of that
+    // rose.
+    ensures causes { HasCauses result (F.seen files.old) (F.seen files.new)
+        (K.seen out.old) (K.seen out.new) }
+
+    // What the files tell stays, and no count falls.
+    ensures kept { Keeps (F.seen files.old) (F.seen files.new) (K.seen out.old) (K.seen out.new) }
+
+    // The reads that were added are those of the first files that the words name, in order, each
+    // with the limit; of all that are asked for, where the files tell their bytes.
+    ensures reads { ReadsMade (asked words.now) (F.seen files.old) (F.seen files.new) result }
 {
-    match run(alloc, machine, start, job.cycles, job.calls, out) {
-        RunEnd::Ended => Status::Ok,
-        RunEnd::Out(cycle) => say_out(alloc, out, cycle),
-        RunEnd::Failed { cycle, site } => say_failed(alloc, out, cycle, site),
-        RunEnd::WriteFault => Status::WriteFault,
-        RunEnd::Memory => Status::Memory,
-    }
+    file_laws();
+    answered(alloc, words, files, out)
 }
 
-// Asks for the image, and runs the machine from it.
-fn run_machine<F: Files, K: Sink>(
-    alloc: Global,
-    job: &RunJob<'_>,
-    machine: &Checked,
-    files: &mut F,
-    out: &mut K,
-) -> Status
-    ensures answer { AnsweredFrom (seen_run job.now) machine.now (F.told files.old job.now.image.now)
-        (Rose (F.faults files.old) (F.faults files.new)) (Rose (F.overlong files.old) (F.overlong files.new))
-        (F.reads files.old) (F.reads files.new) result (K.contents out.old) (K.contents out.new) }
-    ensures write { IfWriteFault result (Rose (K.faults out.old) (K.faults out.new)) }
-    ensures told { F.told files.new ≡ F.told files.old }
-    ensures faults { F.faults files.old ≤ F.faults files.new }
-    ensures overlong { F.overlong files.old ≤ F.overlong files.new }
-    ensures sink_faults { K.faults out.old ≤ K.faults out.new }
-{
-    match load_image(alloc, files, job.image, machine) {
-        Ok(start) => run_from(alloc, job, machine, start, out),
-        Err(refusal) => refuse(alloc, out, job.image, refusal),
-    }
-}
-
-// Asks for the specification, and goes on with its machine.
-fn run_files<F: Files, K: Sink>(
-    alloc: Global,
-    job: &RunJob<'_>,
-    files: &mut F,
-    out: &mut K,
-) -> Status
-    ensures answer { Answered (Some (Run (seen_run job.now))) (F.told files.old)
-        (Rose (F.faults files.old) (F.faults files.new)) (Rose (F.overlong files.old) (F.overlong files.new))
-        (F.reads files.old) (F.reads files.new) result (K.contents out.old) (K.contents out.new) }
-    ensures write { IfWriteFault result (Rose (K.faults out.old) (K.faults out.new)) }
-    ensures told { F.told files.new ≡ F.told files.old }
-    ensures faults { F.faults files.old ≤ F.faults files.new }
-    ensures overlong { F.overlong files.old ≤ F.overlong files.new }
-    ensures sink_faults { K.faults out.old ≤ K.faults out.new }
-{
-    match load_machine(alloc, files, job.spec) {
-        Ok(machine) => run_machine(alloc, job, &machine, files, out),
-        Err(refusal) => refuse(alloc, out, job.spec, refusal),
-    }
-}
-
-// Asks for the specification, and writes its canonical text.
-fn print_file<F: Files, K: Sink>(alloc: Global, name: &str, files: &mut F, out: &mut K) -> Status
-    ensures answer { Answered (Some (Print name.now)) (F.told files.old)
-        (Rose (F.faults files.old) (F.faults files.new)) (Rose (F.overlong files.old) (F.overlong files.new))
-        (F.reads files.old) (F.reads files.new) result (K.contents out.old) (K.contents out.new) }
-    ensures write { IfWriteFault result (Rose (K.faults out.old) (K.faults out.new)) }
-    ensures told { F.told files.new ≡ F.told files.old }
-    ensures faults { F.faults files.old ≤ F.faults files.new }
-    ensures overlong { F.overlong files.old ≤ F.overlong files.new }
-    ensures sink_faults { K.faults out.old ≤ K.faults out.new }
-{
-    match load_spec(alloc, files, name) {
-        Ok(spec) => say_canonical(alloc, out, &spec),
-        Err(refusal) => refuse(alloc, out, name, refusal),
-    }
-}
-
-// Does the job of the words.
+/// Does the job of the words.
 fn answered<F: Files, K: Sink>(
     alloc: Global,
     words: &[String],
     files: &mut F,
     out: &mut K,
 ) -> Status
-    ensures answer { Answered (asked words.now) (F.told files.old)
-        (Rose (F.faults files.old) (F.faults files.new)) (Rose (F.overlong files.old) (F.overlong files.new))
-        (F.reads files.old) (F.reads files.new) result (K.contents out.old) (K.contents out.new) }
-    ensures write { IfWriteFault result (Rose (K.faults out.old) (K.faults out.new)) }
-    ensures told { F.told files.new ≡ F.told files.old }
-    ensures faults { F.faults files.old ≤ F.faults files.new }
-    ensures overlong { F.overlong files.old ≤ F.overlong files.new }
-    ensures sink_faults { K.faults out.old ≤ K.faults out.new }
+    ensures { Answered (asked words.now) (F.seen files.old) (F.seen files.new)
+        result (K.seen out.old) (K.seen out.new) }
 {
-    match asked_job(words) {
-        Some(Job::Run(run)) => run_files(alloc, &run, files, out),
-        Some(Job::Print(spec)) => print_file(alloc, spec, files, out),
-        None => say(out, b"usage\n", Status::Usage),
+    match job(alloc, words) {
+        Ok(job) => do_job(alloc, &job, files, out),
+        Err(WordsError::Usage) => say_fault(alloc, out, &Fault::Usage),
+        Err(WordsError::Memory) => Status::Memory,
     }
 }
 
-/// The whole program: does the job of the words, reads the files that they name, writes the answer, and gives the
-/// status with which the program ends.
-pub fn top<F: Files, K: Sink>(alloc: Global, words: &[String], files: &mut F, out: &mut K) -> Status
-    // The status and what was written are the answer to the words, for what the bytes that the files tell stand for.
-    ensures answer { Answered (asked words.now) (F.told files.old)
-        (Rose (F.faults files.old) (F.faults files.new)) (Rose (F.overlong files.old) (F.overlong files.new))
-        (F.reads files.old) (F.reads files.new) result (K.contents out.old) (K.contents out.new) }
-
-    // Where the files tell their bytes and no count of faults rose, that answer is given whole, or memory ran out.
-    ensures complete { IsComplete (asked words.now) (F.told files.old)
-        (Rose (F.faults files.old) (F.faults files.new)) (Rose (K.faults out.old) (K.faults out.new)) result (K.contents out.old) (K.contents out.new) }
-
-    // With every status a prefix of the text owed was written, and the whole unless a write failed or memory ran out.
-    ensures prefix { WrotePrefix (asked words.now) (F.told files.old)
-        (Rose (F.faults files.old) (F.faults files.new)) (Rose (F.overlong files.old) (F.overlong files.new))
-        (F.reads files.old) (F.reads files.new) result (K.contents out.old) (K.contents out.new) }
-
-    // The words are those of no job.
-    ensures usage { ComesExactly ⊤ Status.Usage result (asked words.now ≡ None) (asked words.now ≡ None) }
-
-    // A file of the job has more bytes than are read, and none before it was refused.
-    ensures long { LongComes (asked words.now) (F.told files.old) result }
-
-    // The bytes of a file, none before it being refused, stand for no specification that the job can treat, or for no image.
-    ensures form { FormComes (asked words.now) (F.told files.old) result }
-
-    // A cycle of the run makes a call with none left.
-    ensures out_of_calls { DoneComes Status.Out (asked words.now) (F.told files.old) result (K.contents out.old) (K.contents out.new) }
-
-    // A cycle of the run fails.
-    ensures failed { DoneComes Status.Failed (asked words.now) (F.told files.old) result (K.contents out.old) (K.contents out.new) }
-
-    // The run ends, or the specification is printed, and the whole text is written.
-    ensures ok { DoneComes Status.Ok (asked words.now) (F.told files.old) result (K.contents out.old) (K.contents out.new) }
-
-    // A fault comes only where the count of what was handed in rose.
-    ensures write { IfWriteFault result (Rose (K.faults out.old) (K.faults out.new)) }
-    ensures read { IfReadFault result (Rose (F.faults files.old) (F.faults files.new)) }
-    ensures overlong_rose { IfTooLong result (Rose (F.overlong files.old) (F.overlong files.new)) }
-
-    // What the files tell stays, and no count falls.
-    ensures told { F.told files.new ≡ F.told files.old }
-    ensures faults { F.faults files.old ≤ F.faults files.new }
-    ensures overlong { F.overlong files.old ≤ F.overlong files.new }
-    ensures sink_faults { K.faults out.old ≤ K.faults out.new }
-
-    // The reads that were added are those of the first files that the words name, in order.
-    ensures reads { AddsReads (files_of (asked words.now)) (F.reads files.old) (F.reads files.new) }
+/// Does a job. One that is not built yet is answered as words that ask for none.
+fn do_job<F: Files, K: Sink>(alloc: Global, job: &Job, files: &mut F, out: &mut K) -> Status
+    ensures { Answered (done_of (Some job.now)) (F.seen files.old) (F.seen files.new)
+        result (K.seen out.old) (K.seen out.new) }
 {
-    file_laws();
-    answered(alloc, words, files, out)
+    match job {
+        Job::Print { spec } => do_print(alloc, spec, files, out),
+        Job::Run {
+            spec,
+            image,
+            cycles,
+            calls,
+            devices,
+        } => do_run(alloc, spec, image, *cycles, *calls, devices, files, out),
+        Job::Check { .. } => say_fault(alloc, out, &Fault::Usage),
+        Job::Verify { .. } => say_fault(alloc, out, &Fault::Usage),
+        Job::Replay { .. } => say_fault(alloc, out, &Fault::Usage),
+        Job::Gen { .. } => say_fault(alloc, out, &Fault::Usage),
+    }
+}
+
+/// `print SPEC`
+fn do_print<F: Files, K: Sink>(alloc: Global, spec: &Text, files: &mut F, out: &mut K) -> Status
+    ensures { Answered (done_of (Some (job.Print spec.now))) (F.seen files.old) (F.seen files.new)
+        result (K.seen out.old) (K.seen out.new) }
+{
+    if is_reserved(spec) {
+        return say_fault(alloc, out, &Fault::Usage);
+    }
+    print_file(alloc, spec, files, out)
+}
+
+/// `run SPEC IMAGE --cycles N --calls N`; with devices it is not built yet.
+fn do_run<F: Files, K: Sink>(
+    alloc: Global,
+    spec: &Text,
+    image: &Text,
+    cycles: u64,
+    calls: u64,
+    devices: &Devices,
+    files: &mut F,
+    out: &mut K,
+) -> Status
+    ensures { Answered (done_of (Some (job.Run spec.now image.now cycles calls devices.now)))
+        (F.seen files.old) (F.seen files.new) result (K.seen out.old) (K.seen out.new) }
+{
+    if !devices.as_slice().is_empty() {
+        return say_fault(alloc, out, &Fault::Usage);
+    }
+    if !are_files(spec, image) {
+        return say_fault(alloc, out, &Fault::Usage);
+    }
+    run_files(alloc, spec, image, cycles, calls, files, out)
+}
+
+/// Whether neither name is kept for a text that comes with the program.
+fn are_files(spec: &Text, image: &Text) -> bool
+    ensures { result ≡ not (list_any is_reserved (spec.now ∷ image.now ∷ [])) }
+{
+    !is_reserved(spec) && !is_reserved(image)
+}
+
+/// Whether a name is kept for a text that comes with the program.
+fn is_reserved(name: &Text) -> bool
+    ensures { result ≡ is_reserved name.now }
+{
+    match name.as_bytes().first() {
+        Some(byte) => *byte == b'@',
+        None => false,
+    }
 }

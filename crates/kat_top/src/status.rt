@@ -1,7 +1,9 @@
-// How the program ends.
+//! How the program ends.
 
 ghost use Rattle.std.specs.Prelude.{◌≡◌};
-ghost use Rattle.kat_top.specs.Statuses.{number_of_status};
+ghost use Rattle.kat_top.specs.Statuses.{number_of_status, status_of_fault};
+
+use crate::fault::Fault;
 
 /// The status with which the program ends, in the order of the numbers, from 0.
 #[derive(Clone, Copy, Debug, PartialEq, Eq)]
@@ -18,7 +20,8 @@ pub enum Status {
     WriteFault,
     /// A file has more bytes than are read.
     TooLong,
-    /// A text stands for no specification, or for none that can be run yet, or for no image of its machine.
+    /// A text stands for no specification, or for none that can be run yet, or for no image of its
+    /// machine.
     Form,
     /// A specification is not typed.
     IllTyped,
@@ -42,5 +45,19 @@ impl Status {
         ensures { result ≡ number_of_status self }
     {
         self as u8
+    }
+
+    /// The status with which the line of a fault is said.
+    pub(crate) fn of_fault(fault: &Fault) -> Status
+        ensures { result ≡ status_of_fault fault.now }
+    {
+        match fault {
+            Fault::Usage => Status::Usage,
+            Fault::Read { .. } => Status::ReadFault,
+            Fault::Long { .. } => Status::TooLong,
+            Fault::Tree { .. } | Fault::Form { .. } | Fault::Unbuilt => Status::Form,
+            Fault::Out(_) => Status::Out,
+            Fault::Failed { .. } => Status::Failed,
+        }
     }
 }

@@ -137,13 +137,25 @@ fn runs_write_their_states(rt: HostRuntime) -> Result<(), Fail> {
             "at 0\nreg n 0x01\nended 0\n",
         ),
         (
+            "run --calls=64 s --cycles=1 i",
+            Status::Ok,
+            "at 0\nreg n 0x01\nat 1\nreg n 0x02\nended 1\n",
+        ),
+        (
             "run s i --cycles 1000001 --calls 1",
             Status::Usage,
             "usage\n",
         ),
-        ("run s i --cycles 3 --calls 2", Status::Usage, "usage\n"),
+        ("run s i --cycles 3 --calls 65", Status::Usage, "usage\n"),
         ("run @s i --cycles 3 --calls 1", Status::Usage, "usage\n"),
-        ("run s i --calls 1 --cycles 3", Status::Usage, "usage\n"),
+        ("run s @i --cycles 3 --calls 1", Status::Usage, "usage\n"),
+        (
+            "run s i --cycles 3 --calls 1 --devices 0",
+            Status::Usage,
+            "usage\n",
+        ),
+        ("check s", Status::Usage, "usage\n"),
+        ("print @s", Status::Usage, "usage\n"),
         ("", Status::Usage, "usage\n"),
         (
             "run s none --cycles 3 --calls 1",

@@ -1,0 +1,122 @@
+-- What bytes are read as is one thing, the fault with which they are refused is one, and they are
+-- not both.
+use Rattle.std.proofs.Common.{◌≡◌, ℕ, inl, inr, List, Option, Some, Ok, Err, refl, ap, sym, subst, ◌∙◌}
+use Rattle.kat_tree.specs.declared.error.TreeError.{TreeError}
+use Rattle.kat_tree.specs.declared.error.TreeError.TheVariants as error
+use Rattle.kat_tree.specs.declared.tree.Tree.{Tree as TextTree}
+use Rattle.kat_tree.specs.Spelling.{Spells}
+use Rattle.kat_tree.specs.Faults.{IsFirstFault}
+use Rattle.kat_ast.specs.Spec.{Spec}
+use Rattle.kat_ast.specs.Specifications.{Reads}
+use Rattle.kat_syntax.specs.Machine.{MachineState}
+use Rattle.kat_syntax.specs.Runnable.{IsRunnable}
+use Rattle.kat_forms.specs.declared.misfit.Misfit.{Misfit}
+use Rattle.kat_forms.specs.Reading.{IsFirstMisfit}
+use Rattle.kat_image.specs.Image.{IsImageOf}
+use Rattle.kat_top.specs.declared.fault.Fault.{Fault}
+use Rattle.kat_top.specs.declared.fault.Fault.TheVariants as fault
+use Rattle.kat_top.specs.declared.fault.TreeKind.{TreeKind}
+use Rattle.kat_top.specs.declared.fault.TreeKind.TheVariants.{NotText, Unclosed, Stray, BadToken, Deep}
+use Rattle.kat_top.specs.declared.status.Status.TheVariants as status
+use Rattle.kat_top.specs.FileLaws.{FileLaws}
+use Rattle.kat_top.specs.Statuses.{status_of_fault}
+use Rattle.kat_top.specs.Inputs.{Kind, ASpec, AMachine, AnImage, Thing, TheSpec, TheMachine, TheState, machine_of, IsMachine, tree_error, IsNoTree, IsNoSpec, IsNotBuilt, IsNoImage, IsReadAs, IsRefusedAs}
+
+-- the fault of an error of a tree
+abbrev pub fault_of_error : TreeError → Fault
+fault_of_error (error.NotText at) = fault.Tree NotText at
+fault_of_error (error.Unclosed at) = fault.Tree Unclosed at
+fault_of_error (error.Stray at) = fault.Tree Stray at
+fault_of_error (error.BadToken at) = fault.Tree BadToken at
+fault_of_error (error.Deep at) = fault.Tree Deep at
+fault_of_error error.Memory = fault.Unbuilt
+
+tells_fault : (kind : TreeKind) (offset : ℕ) → fault_of_error (tree_error kind offset) ≡ fault.Tree kind offset
+tells_fault NotText offset = refl
+tells_fault Unclosed offset = refl
+tells_fault Stray offset = refl
+tells_fault BadToken offset = refl
+tells_fault Deep offset = refl
+
+same_machine : (m : Option Spec) (a b : Spec) → m ≡ Some a → m ≡ Some b → a ≡ b
+same_machine m a b x y = cc
+
+-- a refusal by the text has the status of that
+no_tree_status : (bytes : List ℕ) (said : Fault) → IsNoTree bytes said → status_of_fault said ≡ status.Form
+no_tree_status bytes said x = ap status_of_fault x.said_is
+
+no_spec_status : (bytes : List ℕ) (said : Fault) → IsNoSpec bytes said → status_of_fault said ≡ status.Form
+no_spec_status bytes said x = ap status_of_fault x.said_is
+
+pub refused_status : (earlier : List Thing) (kind : Kind) (bytes : List ℕ) (said : Fault) → IsRefusedAs earlier kind bytes said → status_of_fault said ≡ status.Form
+refused_status earlier ASpec bytes said (inl x) = no_tree_status bytes said x
+refused_status earlier ASpec bytes said (inr x) = no_spec_status bytes said x
+refused_status earlier AMachine bytes said (inl x) = ap status_of_fault x.said_is
+refused_status earlier AMachine bytes said (inr (inl x)) = no_tree_status bytes said x
+refused_status earlier AMachine bytes said (inr (inr x)) = no_spec_status bytes said x
+refused_status earlier AnImage bytes said x = ap status_of_fault x.said_is
+
+module _ (laws : FileLaws) where
+  same_tree : (bytes : List ℕ) (a b : TextTree) → Spells bytes a → Spells bytes b → a ≡ b
+  same_tree bytes a b x y = let e = laws.one_outcome bytes (Ok a) (Ok b) x y in cc
+
+  tree_or_not : (bytes : List ℕ) (tree : TextTree) (kind : TreeKind) (offset : ℕ) → Spells bytes tree → IsFirstFault bytes (tree_error kind offset) → ⊥
+  tree_or_not bytes tree kind offset x y = let e = laws.one_outcome bytes (Ok tree) (Err (tree_error kind offset)) x y in absurd (cc)
+
+  no_tree_once : (bytes : List ℕ) (a b : Fault) → IsNoTree bytes a → IsNoTree bytes b → a ≡ b
+  no_tree_once bytes a b x y =
+      let e = laws.one_outcome bytes (Err (tree_error x.kind x.offset)) (Err (tree_error y.kind y.offset)) x.first y.first in
+      let f : tree_error x.kind x.offset ≡ tree_error y.kind y.offset = cc in
+      x.said_is ∙ sym (tells_fault x.kind x.offset) ∙ ap fault_of_error f ∙ tells_fault y.kind y.offset ∙ sym y.said_is
+
+  no_spec_once : (bytes : List ℕ) (a b : Fault) → IsNoSpec bytes a → IsNoSpec bytes b → a ≡ b
+  no_spec_once bytes a b x y =
+      let m : Misfit = record { place = x.place; wanted = x.wanted } in
+      let n : Misfit = record { place = y.place; wanted = y.wanted } in
+      let same = same_tree bytes y.tree x.tree y.spelled x.spelled in
+      let e = laws.one_misfit x.tree m n x.first (subst (λ t. IsFirstMisfit t n) same y.first) in
+      x.said_is ∙ ap (λ (o : Misfit). fault.Form o.place o.wanted) e ∙ sym y.said_is
+
+  no_tree_no_spec : (bytes : List ℕ) (a b : Fault) → IsNoTree bytes a → IsNoSpec bytes b → ⊥
+  no_tree_no_spec bytes a b x y = tree_or_not bytes y.tree x.kind x.offset y.spelled x.first
+
+  read_or_no_tree : (bytes : List ℕ) (spec : Spec) (said : Fault) → Reads bytes spec → IsNoTree bytes said → ⊥
+  read_or_no_tree bytes spec said x y = tree_or_not bytes x.tree y.kind y.offset x.spelled y.first
+
+  read_or_no_spec : (bytes : List ℕ) (spec : Spec) (said : Fault) → Reads bytes spec → IsNoSpec bytes said → ⊥
+  read_or_no_spec bytes spec said x y =
+      let m : Misfit = record { place = y.place; wanted = y.wanted } in
+      let same = same_tree bytes y.tree x.tree y.spelled x.spelled in
+      laws.no_misfit x.tree spec m x.described (subst (λ t. IsFirstMisfit t m) same y.first)
+
+  pub one_thing : (earlier : List Thing) (kind : Kind) (bytes : List ℕ) (a b : Thing) → IsReadAs earlier kind bytes a → IsReadAs earlier kind bytes b → a ≡ b
+  one_thing earlier ASpec bytes a b (s, x, r) (t, y, q) = x ∙ ap TheSpec (laws.one_spec bytes s t r q) ∙ sym y
+  one_thing earlier AMachine bytes a b (s, x, r) (t, y, q) = x ∙ ap TheMachine (laws.one_spec bytes s t r.reads q.reads) ∙ sym y
+  one_thing earlier AnImage bytes a b (m, s, f, x, r) (n, t, g, y, q) =
+      let e = same_machine (machine_of earlier) n m g f in
+      x ∙ ap TheState (laws.one_state m bytes s t r (subst (λ k. IsImageOf k bytes t) e q)) ∙ sym y
+
+  pub one_fault : (earlier : List Thing) (kind : Kind) (bytes : List ℕ) (a b : Fault) → IsRefusedAs earlier kind bytes a → IsRefusedAs earlier kind bytes b → a ≡ b
+  one_fault earlier ASpec bytes a b (inl x) (inl y) = no_tree_once bytes a b x y
+  one_fault earlier ASpec bytes a b (inl x) (inr y) = absurd (no_tree_no_spec bytes a b x y)
+  one_fault earlier ASpec bytes a b (inr x) (inl y) = absurd (no_tree_no_spec bytes b a y x)
+  one_fault earlier ASpec bytes a b (inr x) (inr y) = no_spec_once bytes a b x y
+  one_fault earlier AMachine bytes a b (inl x) (inl y) = x.said_is ∙ sym y.said_is
+  one_fault earlier AMachine bytes a b (inl x) (inr (inl y)) = absurd (read_or_no_tree bytes x.spec b x.reads y)
+  one_fault earlier AMachine bytes a b (inl x) (inr (inr y)) = absurd (read_or_no_spec bytes x.spec b x.reads y)
+  one_fault earlier AMachine bytes a b (inr (inl x)) (inl y) = absurd (read_or_no_tree bytes y.spec a y.reads x)
+  one_fault earlier AMachine bytes a b (inr (inr x)) (inl y) = absurd (read_or_no_spec bytes y.spec a y.reads x)
+  one_fault earlier AMachine bytes a b (inr (inl x)) (inr (inl y)) = no_tree_once bytes a b x y
+  one_fault earlier AMachine bytes a b (inr (inl x)) (inr (inr y)) = absurd (no_tree_no_spec bytes a b x y)
+  one_fault earlier AMachine bytes a b (inr (inr x)) (inr (inl y)) = absurd (no_tree_no_spec bytes b a y x)
+  one_fault earlier AMachine bytes a b (inr (inr x)) (inr (inr y)) = no_spec_once bytes a b x y
+  one_fault earlier AnImage bytes a b x y = x.said_is ∙ sym y.said_is
+
+  pub not_both : (earlier : List Thing) (kind : Kind) (bytes : List ℕ) (thing : Thing) (said : Fault) → IsReadAs earlier kind bytes thing → IsRefusedAs earlier kind bytes said → ⊥
+  not_both earlier ASpec bytes thing said (s, x, r) (inl y) = read_or_no_tree bytes s said r y
+  not_both earlier ASpec bytes thing said (s, x, r) (inr y) = read_or_no_spec bytes s said r y
+  not_both earlier AMachine bytes thing said (s, x, r) (inl y) = y.not_runnable (subst IsRunnable (laws.one_spec bytes s y.spec r.reads y.reads) r.runnable)
+  not_both earlier AMachine bytes thing said (s, x, r) (inr (inl y)) = read_or_no_tree bytes s said r.reads y
+  not_both earlier AMachine bytes thing said (s, x, r) (inr (inr y)) = read_or_no_spec bytes s said r.reads y
+  not_both earlier AnImage bytes thing said (m, s, f, x, r) y =
+      y.nothing s (subst (λ k. IsImageOf k bytes s) (same_machine (machine_of earlier) m y.machine f y.machine_is) r)

@@ -1,0 +1,109 @@
+-- The inputs of a job: what their bytes are read as, or with which fault they are refused.
+use Rattle.std.specs.Prelude.{◌≡◌, ◌⊎◌, ℕ, List, [], ◌∷◌, Option, Some, None}
+use Rattle.kat_tree.specs.declared.error.TreeError.{TreeError}
+use Rattle.kat_tree.specs.declared.error.TreeError.TheVariants as error
+use Rattle.kat_tree.specs.declared.tree.Tree.{Tree}
+use Rattle.kat_tree.specs.Spelling.{Spells}
+use Rattle.kat_tree.specs.Faults.{IsFirstFault}
+use Rattle.kat_ast.specs.Spec.{Spec}
+use Rattle.kat_ast.specs.declared.wanted.Wanted.{Wanted}
+use Rattle.kat_ast.specs.Specifications.{Reads}
+use Rattle.kat_syntax.specs.Machine.{MachineState}
+use Rattle.kat_syntax.specs.Runnable.{IsRunnable}
+use Rattle.kat_forms.specs.Reading.{IsFirstMisfit}
+use Rattle.kat_image.specs.Image.{IsImageOf}
+use Rattle.kat_top.specs.declared.fault.Fault.{Fault}
+use Rattle.kat_top.specs.declared.fault.Fault.TheVariants as fault
+use Rattle.kat_top.specs.declared.fault.TreeKind.{TreeKind}
+use Rattle.kat_top.specs.declared.fault.TreeKind.TheVariants.{NotText, Unclosed, Stray, BadToken, Deep}
+
+-- a name is the list of its bytes
+abbrev pub Name : Type 0
+Name = List ℕ
+
+-- a file has at most this many bytes
+abbrev pub most_bytes : ℕ
+most_bytes = 4194304
+
+-- what a file is to be: a specification, a machine that can be run, or an image of the machine
+-- before it
+pub data Kind : Type 0 where
+  ASpec : Kind
+  AMachine : Kind
+  AnImage : Kind
+
+-- a file that a job asks for
+pub record Input : Type 0 where
+  pub kind : Kind
+  pub name : Name
+
+-- what a file was read as
+pub data Thing : Type 0 where
+  TheSpec : (spec : Spec) → Thing
+  TheMachine : (machine : Spec) → Thing
+  TheState : (state : MachineState) → Thing
+
+-- the machine among what was read before
+abbrev pub machine_of : List Thing → Option Spec
+machine_of [] = None
+machine_of (TheMachine machine ∷ things) = Some machine
+machine_of (thing ∷ things) = machine_of things
+
+-- bytes stand for a machine: for a specification that can be run
+pub record IsMachine (bytes : List ℕ) (machine : Spec) : Type 0 where
+  pub reads : Reads bytes machine
+  pub runnable : IsRunnable machine
+
+-- what bytes are read as, behind what was read before them: a line for each kind
+abbrev pub IsReadAs : List Thing → Kind → List ℕ → Thing → Type 0
+IsReadAs earlier ASpec bytes thing = (spec : Spec) × (thing ≡ TheSpec spec) × Reads bytes spec
+IsReadAs earlier AMachine bytes thing =
+    (machine : Spec) × (thing ≡ TheMachine machine) × IsMachine bytes machine
+IsReadAs earlier AnImage bytes thing =
+    (machine : Spec) × (state : MachineState) × (machine_of earlier ≡ Some machine)
+    × (thing ≡ TheState state) × IsImageOf machine bytes state
+
+-- the error of a text that is no tree
+abbrev pub tree_error : TreeKind → ℕ → TreeError
+tree_error NotText at = error.NotText at
+tree_error Unclosed at = error.Unclosed at
+tree_error Stray at = error.Stray at
+tree_error BadToken at = error.BadToken at
+tree_error Deep at = error.Deep at
+
+-- the bytes are no tree, and the fault is their first one
+pub record IsNoTree (bytes : List ℕ) (said : Fault) : Type 0 where
+  pub kind : TreeKind
+  pub offset : ℕ
+  pub said_is : said ≡ fault.Tree kind offset
+  pub first : IsFirstFault bytes (tree_error kind offset)
+
+-- the bytes spell a tree that is no specification, and the fault is its first misfit
+pub record IsNoSpec (bytes : List ℕ) (said : Fault) : Type 0 where
+  pub tree : Tree
+  pub place : ℕ
+  pub wanted : Wanted
+  pub said_is : said ≡ fault.Form place wanted
+  pub spelled : Spells bytes tree
+  pub first : IsFirstMisfit tree (record { place = place; wanted = wanted })
+
+-- the bytes stand for a specification that can not be run yet
+pub record IsNotBuilt (bytes : List ℕ) (said : Fault) : Type 0 where
+  pub spec : Spec
+  pub said_is : said ≡ fault.Unbuilt
+  pub reads : Reads bytes spec
+  pub not_runnable : IsRunnable spec → ⊥
+
+-- the bytes are no image of the machine before them
+pub record IsNoImage (earlier : List Thing) (bytes : List ℕ) (said : Fault) : Type 0 where
+  pub machine : Spec
+  pub said_is : said ≡ fault.Unbuilt
+  pub machine_is : machine_of earlier ≡ Some machine
+  pub nothing : (state : MachineState) → IsImageOf machine bytes state → ⊥
+
+-- the fault with which bytes are refused, behind what was read before them: a line for each kind
+abbrev pub IsRefusedAs : List Thing → Kind → List ℕ → Fault → Type 0
+IsRefusedAs earlier ASpec bytes said = IsNoTree bytes said ⊎ IsNoSpec bytes said
+IsRefusedAs earlier AMachine bytes said =
+    IsNotBuilt bytes said ⊎ (IsNoTree bytes said ⊎ IsNoSpec bytes said)
+IsRefusedAs earlier AnImage bytes said = IsNoImage earlier bytes said

@@ -1,0 +1,186 @@
+//! The inputs of a job: each is asked for by one read, and then judged by its bytes and by what was
+//! read before it.
+
+ghost use Rattle.std.specs.Prelude.{◌≡◌, ◌≤◌, ◌+◌, length, List, Some};
+ghost use Rattle.kat_top.specs.declared.fault.Fault.TheVariants as fault;
+ghost use Rattle.kat_top.specs.Inputs.{most_bytes, Thing, ASpec, AMachine, AnImage, TheSpec, TheMachine, TheState, machine_of};
+ghost use Rattle.kat_top.specs.Jobs.{input};
+ghost use Rattle.kat_top.specs.Loading.{IsFaultOrMemory, ComesOf, Loads, LoadsBytes, error_of_form, error_of_tree, items_of, outcome_of};
+
+use crate::fault::{Fault, TreeKind};
+use kat_forms::{FormError, read_spec};
+use kat_image::{ImageError, read_image};
+use kat_io::{Files, ReadError};
+use kat_state::State;
+use kat_syntax::{Checked, Spec};
+use kat_text::Text;
+use kat_tree::{TreeError, places, read_tree, spelled_is_writable, trees_fit_their_text};
+use kat_typing::is_runnable;
+use std::alloc::Global;
+
+/// How many bytes of a file are read.
+pub const MOST_BYTES: u64 = 4_194_304;
+
+/// Why an input of a job was not taken.
+#[derive(Debug, Drop)]
+pub enum InputError {
+    /// This is said of it.
+    Fault(Fault),
+    /// Memory ran out.
+    Memory,
+}
+
+/// The specification that a file stands for.
+pub fn load_spec<F: Files>(alloc: Global, files: &mut F, name: &str) -> Result<Spec, InputError>
+    ensures { (earlier : List Thing) →
+        Loads earlier (input ASpec name.now) (outcome_of TheSpec result)
+        (F.seen files.old) (F.seen files.new) }
+{
+    match load(alloc, files, name) {
+        Ok(bytes) => spec_of(alloc, bytes.as_slice()),
+        Err(error) => Err(error),
+    }
+}
+
+/// The machine that a file stands for.
+pub fn load_machine<F: Files>(
+    alloc: Global,
+    files: &mut F,
+    name: &str,
+) -> Result<Checked, InputError>
+    ensures { (earlier : List Thing) →
+        Loads earlier (input AMachine name.now) (outcome_of TheMachine result)
+        (F.seen files.old) (F.seen files.new) }
+{
+    match load(alloc, files, name) {
+        Ok(bytes) => machine_of(alloc, bytes.as_slice()),
+        Err(error) => Err(error),
+    }
+}
+
+/// The state that a file is an image of.
+pub fn load_image<F: Files>(
+    alloc: Global,
+    files: &mut F,
+    name: &str,
+    machine: &Checked,
+) -> Result<State, InputError>
+    ensures { (earlier : List Thing) → machine_of earlier ≡ Some machine.now →
+        Loads earlier (input AnImage name.now) (outcome_of TheState result)
+        (F.seen files.old) (F.seen files.new) }
+{
+    match load(alloc, files, name) {
+        Ok(bytes) => start_of(alloc, bytes.as_slice(), machine),
+        Err(error) => Err(error),
+    }
+}
+
+/// The bytes of a file, by one read.
+fn load<F: Files>(alloc: Global, files: &mut F, name: &str) -> Result<Vec<u8>, InputError>
+    ensures { LoadsBytes name.now (items_of result) (F.seen files.old) (F.seen files.new) }
+{
+    let mut bytes = Vec::new(alloc);
+    match files.read(name, MOST_BYTES, &mut bytes) {
+        Ok(()) => Ok(bytes),
+        Err(ReadError::Failed) => Err(read_fault(alloc, name)),
+        Err(ReadError::TooLong(taken)) => Err(long_fault(alloc, name, taken)),
+        Err(ReadError::Memory) => Err(InputError::Memory),
+    }
+}
+
+/// The file of this name could not be read.
+fn read_fault(alloc: Global, name: &str) -> InputError
+    ensures { IsFaultOrMemory (fault.Read name.now) result }
+{
+    match Text::new(alloc, name) {
+        Ok(name) => InputError::Fault(Fault::Read { name }),
+        Err(_) => InputError::Memory,
+    }
+}
+
+/// The file of this name is too long.
+fn long_fault(alloc: Global, name: &str, taken: u64) -> InputError
+    ensures { IsFaultOrMemory (fault.Long name.now taken) result }
+{
+    match Text::new(alloc, name) {
+        Ok(name) => InputError::Fault(Fault::Long { name, taken }),
+        Err(_) => InputError::Memory,
+    }
+}
+
+/// What a text is read as that is to be a specification.
+fn spec_of(alloc: Global, text: &[u8]) -> Result<Spec, InputError>
+    requires { length text.now ≤ most_bytes }
+    ensures { (earlier : List Thing) → ComesOf earlier ASpec text.now (outcome_of TheSpec result) }
+{
+    match read_tree(alloc, text) {
+        Ok(tree) => {
+            trees_fit_their_text();
+            spelled_is_writable();
+            places();
+            match read_spec(alloc, &tree) {
+                Ok(spec) => Ok(spec),
+                Err(error) => Err(InputError::of_form(error)),
+            }
+        }
+        Err(error) => Err(InputError::of_tree(error)),
+    }
+}
+
+/// What a text is read as that is to be a machine.
+fn machine_of(alloc: Global, text: &[u8]) -> Result<Checked, InputError>
+    requires { length text.now ≤ most_bytes }
+    ensures { (earlier : List Thing) →
+        ComesOf earlier AMachine text.now (outcome_of TheMachine result) }
+{
+    match spec_of(alloc, text) {
+        Ok(spec) => match is_runnable(alloc, &spec) {
+            Ok(true) => match Checked::new(alloc, spec) {
+                Ok(machine) => Ok(machine),
+                Err(_) => Err(InputError::Memory),
+            },
+            Ok(false) => Err(InputError::Fault(Fault::Unbuilt)),
+            Err(_) => Err(InputError::Memory),
+        },
+        Err(error) => Err(error),
+    }
+}
+
+/// What a text is read as that is to be an image of a machine.
+fn start_of(alloc: Global, text: &[u8], machine: &Checked) -> Result<State, InputError>
+    ensures { (earlier : List Thing) → machine_of earlier ≡ Some machine.now →
+        ComesOf earlier AnImage text.now (outcome_of TheState result) }
+{
+    match read_image(alloc, text, machine) {
+        Ok(state) => Ok(state),
+        Err(ImageError::Line(_)) => Err(InputError::Fault(Fault::Unbuilt)),
+        Err(ImageError::Memory) => Err(InputError::Memory),
+    }
+}
+
+impl InputError {
+    /// Of a text that is no tree.
+    fn of_tree(error: TreeError) -> InputError
+        ensures { result ≡ error_of_tree error }
+    {
+        let (kind, offset) = match error {
+            TreeError::NotText(at) => (TreeKind::NotText, at),
+            TreeError::Unclosed(at) => (TreeKind::Unclosed, at),
+            TreeError::Stray(at) => (TreeKind::Stray, at),
+            TreeError::BadToken(at) => (TreeKind::BadToken, at),
+            TreeError::Deep(at) => (TreeKind::Deep, at),
+            TreeError::Memory => return InputError::Memory,
+        };
+        InputError::Fault(Fault::Tree { kind, offset })
+    }
+
+    /// Of a tree that is no specification.
+    fn of_form(error: FormError) -> InputError
+        ensures { result ≡ error_of_form error }
+    {
+        match error {
+            FormError::Wanted { place, wanted } => InputError::Fault(Fault::Form { place, wanted }),
+            FormError::Memory => InputError::Memory,
+        }
+    }
+}
