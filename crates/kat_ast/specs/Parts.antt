@@ -1,9 +1,9 @@
 -- The pieces that forms are written of.
-use Rattle.std.specs.Prelude.{ℕ, ◌-◌, ◌^◌, min, Bool, true, false, ◌&&◌, not, List, [], ◌∷◌, codes}
-use Rattle.std.specs.Str.{bytes_eq}
+use Rattle.std.specs.Prelude.{ℕ, ◌-◌, ◌^◌, min, Bool, true, false, ◌&&◌, List, [], ◌∷◌}
 use Rattle.kat_tree.specs.declared.tree.Token.TheVariants.{Number as NumberToken, Name as NameToken}
 use Rattle.kat_tree.specs.declared.tree.Tree.{Tree}
 use Rattle.kat_tree.specs.declared.tree.Tree.TheVariants as tree
+pub use Rattle.kat_value.specs.Words.{is_name}
 
 -- a name is the list of its bytes
 abbrev pub word : List ℕ → Tree
@@ -16,12 +16,6 @@ number n = tree.Atom (NumberToken n)
 -- a list with its first word
 abbrev pub form : List ℕ → List Tree → Tree
 form head parts = tree.List (word head ∷ parts)
-
--- `true`, `false` and `unit` are no names
-abbrev pub is_name : List ℕ → Bool
-is_name x =
-    not (bytes_eq x (codes "true"))
-    && (not (bytes_eq x (codes "false")) && not (bytes_eq x (codes "unit")))
 
 -- whether all are true
 abbrev pub every : List Bool → Bool

@@ -3,6 +3,7 @@
 
 ghost use Rattle.std.specs.Prelude.{◌≡◌, ◌<◌, ◌^◌, IfOk};
 ghost use Rattle.kat_ast.specs.Statements.{trees_of_stm};
+ghost use Rattle.kat_ast.specs.Limits.{decl_trees_bound};
 ghost use Rattle.kat_syntax.specs.Meaning.{meaning, is_true, read_of, write_to, Calls};
 ghost use Rattle.kat_syntax.specs.Cycle.{register_names};
 ghost use Rattle.kat_eval.specs.Locals.{locals_of};
@@ -25,7 +26,7 @@ pub fn exec(
     locals: &Locals<'_>,
     running: &mut Running,
 ) -> Result<StmEnd, AllocError>
-    requires { trees_of_stm stm.now < 2 ^ 32 }
+    requires { trees_of_stm stm.now < decl_trees_bound }
     ensures meaning { let names = register_names machine.now.decls in
         IfOk result (λ end. (calls : Calls) →
         meaning names calls stm.now (locals_of locals.now) (progress_of running.old)

@@ -1,5 +1,5 @@
 pub mod Faults
-pub mod Images
+pub mod ImageStates
 pub mod SafeCycle
 pub mod SafeExpr
 pub mod SafeParts

@@ -1,5 +1,5 @@
 -- The canonical text of words, numbers and lists.
-use Rattle.std.proofs.Common.{◌≡◌, ℕ, List, [], ◌∷◌, map, sym, ap, ◌∙◌, refl}
+use Rattle.std.proofs.Common.{◌≡◌, ℕ, List, [], ◌∷◌, map, sym, ap, ◌∙◌, refl, ◌++◌, append_assoc, append-nil}
 use Rattle.std.specs.Fmt.{decimal}
 use Rattle.kat_tree.specs.declared.tree.Token.{Token}
 use Rattle.kat_tree.specs.declared.tree.Token.TheVariants.{Number as NumberToken, Name as NameToken}
@@ -8,9 +8,9 @@ use Rattle.kat_tree.specs.declared.tree.Tree.TheVariants as tree
 use Rattle.kat_tree.specs.declared.tree.Tree.TheVariants.{rolls-Atom, rolls-List}
 use Rattle.kat_tree.specs.declared.tree.Tree.TheOpen.{Tree-F}
 use Rattle.kat_tree.specs.declared.tree.Tree.TheFolds.{fold-roll-Tree}
-use Rattle.kat_tree.specs.Written.{text_in, text_of_token, text_of_tree}
+use Rattle.kat_tree.specs.Written.{text_in, text_of_token, text_of_tree, behind_spaces}
 use Rattle.kat_ast.specs.Parts.{word, number, form}
-use Rattle.kat_print.specs.Texts.{bracketed, listed}
+use Rattle.kat_print.specs.Lists.{bracketed, listed}
 
 text_of-Atom : (token : Token) → text_of_tree (tree.Atom token) ≡ text_of_token token
 text_of-Atom token = ap text_of_tree (sym (rolls-Atom token)) ∙ fold-roll-Tree (List ℕ) text_in (Tree-F.Atom token)
@@ -69,3 +69,10 @@ words (x ∷ xs) = both (word x) (map word xs) x xs (of_word x) (words xs)
 pub numbers : (ns : List ℕ) → map text_of_tree (map number ns) ≡ map decimal ns
 numbers [] = refl
 numbers (n ∷ ns) = both (number n) (map number ns) (decimal n) (map decimal ns) (of_number n) (numbers ns)
+
+pub behind_spaces-append : (xs ys : List (List ℕ)) → behind_spaces (xs ++ ys) ≡ behind_spaces xs ++ behind_spaces ys
+behind_spaces-append [] ys = refl
+behind_spaces-append (x ∷ xs) ys = ap (λ t. 32 ∷ (x ++ t)) (behind_spaces-append xs ys) ∙ ap (λ t. 32 ∷ t) (sym (append_assoc x (behind_spaces xs) (behind_spaces ys)))
+
+pub behind_spaces_last : (xs : List (List ℕ)) (y : List ℕ) → behind_spaces (xs ++ y ∷ []) ≡ behind_spaces xs ++ 32 ∷ y
+behind_spaces_last xs y = behind_spaces-append xs (y ∷ []) ∙ ap (λ t. behind_spaces xs ++ 32 ∷ t) (append-nil y)

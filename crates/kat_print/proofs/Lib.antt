@@ -1,8 +1,6 @@
-pub mod Layers
-pub mod Spaces
 pub mod Forms
-pub mod ExprText
-pub mod StmText
-pub mod StmTrees
-pub mod AssertionText
-pub mod DeclText
+pub mod TypeTexts
+pub mod ExpressionTexts
+pub mod StatementTexts
+pub mod AssertionTexts
+pub mod DeclarationTexts

@@ -1,1 +1,6 @@
-pub mod Texts
+pub mod Lists
+pub mod Types
+pub mod Expressions
+pub mod Statements
+pub mod Assertions
+pub mod Declarations

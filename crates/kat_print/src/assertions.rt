@@ -1,17 +1,19 @@
-// Assertions.
+//! Assertions.
 
 ghost use Rattle.std.specs.Prelude.{◌≡◌, ◌++◌, ◌∷◌, map, codes, OnOk};
-ghost use Rattle.kat_print.specs.Texts.{listed, text_of_assertion, text_holding};
+ghost use Rattle.kat_print.specs.Lists.{listed};
+ghost use Rattle.kat_print.specs.Assertions.{text_of_assertion};
+ghost use Rattle.kat_print.specs.Declarations.{text_holding};
 
 use crate::expressions::{put_named_of, put_named_of_all, put_of, put_of_two, put_part};
-use crate::printed::Printed;
 use crate::types::put_typed;
 use kat_ast::Assertion;
+use kat_text::TextBuilder;
 use std::alloc::AllocError;
 
 /// An assertion.
 #[cycle(assertion)]
-pub fn put_assertion(out: &mut Printed, assertion: &Assertion) -> Result<(), AllocError>
+pub fn put_assertion(out: &mut TextBuilder, assertion: &Assertion) -> Result<(), AllocError>
     ensures { OnOk result (out.new ≡ out.old ++ text_of_assertion assertion.now) }
 {
     match assertion {
@@ -24,18 +26,18 @@ pub fn put_assertion(out: &mut Printed, assertion: &Assertion) -> Result<(), All
             then,
             otherwise,
         } => {
-            out.open("if")?;
+            out.push_head("if")?;
             put_part(out, test)?;
             put_assertion_part(out, then.get())?;
             put_assertion_part(out, otherwise.get())?;
-            out.close()
+            out.push_close()
         }
         Assertion::Exists { name, ty, body } => {
-            out.open("exists")?;
-            out.space()?;
+            out.push_head("exists")?;
+            out.push_space()?;
             put_typed(out, name, ty)?;
             put_assertion_part(out, body.get())?;
-            out.close()
+            out.push_close()
         }
         Assertion::Predicate { predicate, args } => {
             put_named_of_all(out, "pred", predicate, args.as_slice())
@@ -46,43 +48,48 @@ pub fn put_assertion(out: &mut Printed, assertion: &Assertion) -> Result<(), All
     }
 }
 
-#[cycle(assertion)]
-fn put_star(out: &mut Printed, parts: &[Assertion]) -> Result<(), AllocError>
-    ensures { OnOk result (out.new ≡ out.old ++ listed (codes "star") (map text_of_assertion parts.now)) }
-{
-    out.open("star")?;
-    for part in parts {
-        put_assertion_part(out, part)?;
-    }
-    out.close()
-}
-
 /// An assertion behind a space.
 #[cycle(assertion)]
-pub fn put_assertion_part(out: &mut Printed, assertion: &Assertion) -> Result<(), AllocError>
+pub fn put_assertion_part(out: &mut TextBuilder, assertion: &Assertion) -> Result<(), AllocError>
     ensures { OnOk result (out.new ≡ out.old ++ 32 ∷ text_of_assertion assertion.now) }
 {
-    out.space()?;
+    out.push_space()?;
     put_assertion(out, assertion)
 }
 
+#[cycle(assertion)]
+fn put_star(out: &mut TextBuilder, parts: &[Assertion]) -> Result<(), AllocError>
+    ensures { OnOk result (out.new ≡ out.old
+        ++ listed (codes "star") (map text_of_assertion parts.now)) }
+{
+    out.push_head("star")?;
+    for part in parts {
+        put_assertion_part(out, part)?;
+    }
+    out.push_close()
+}
+
 /// A form with one assertion.
-pub fn put_holding(out: &mut Printed, head: &str, assertion: &Assertion) -> Result<(), AllocError>
+pub fn put_holding(
+    out: &mut TextBuilder,
+    head: &str,
+    assertion: &Assertion,
+) -> Result<(), AllocError>
     ensures { OnOk result (out.new ≡ out.old ++ text_holding head.now assertion.now) }
 {
-    out.open(head)?;
+    out.push_head(head)?;
     put_assertion_part(out, assertion)?;
-    out.close()
+    out.push_close()
 }
 
 /// A form with one assertion, behind a space.
 pub fn put_holding_part(
-    out: &mut Printed,
+    out: &mut TextBuilder,
     head: &str,
     assertion: &Assertion,
 ) -> Result<(), AllocError>
     ensures { OnOk result (out.new ≡ out.old ++ 32 ∷ text_holding head.now assertion.now) }
 {
-    out.space()?;
+    out.push_space()?;
     put_holding(out, head, assertion)
 }

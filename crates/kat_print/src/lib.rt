@@ -1,16 +1,16 @@
-//! The canonical text of a specification: one space between two trees, none inside the ends of brackets, numbers in
-//! decimal, one newline at the end. It is pushed onto one buffer while the specification is gone over, and no tree of
-//! text is made.
+//! The canonical text of a specification: one space between two trees, none inside the ends of
+//! brackets, numbers in decimal, one newline at the end. It is pushed onto one text while the
+//! specification is gone over, and no tree of text is made.
 #![tactic(auto)]
 
 mod assertions;
 mod declarations;
 mod expressions;
-mod law;
+mod laws;
+mod parts;
 mod print;
-mod printed;
 mod statements;
 mod types;
 
-pub use law::{one_text, reads_back};
+pub use laws::{one_text, reads_back};
 pub use print::print_spec;

@@ -1,30 +1,49 @@
-// The canonical text of a specification, said of its tree.
+//! The canonical text of a specification.
 
-ghost use Rattle.std.specs.Prelude.{◌≡◌, ◌++◌, IfOk, OnOk};
+ghost use Rattle.std.specs.Prelude.{◌≡◌, ◌++◌, map, IfOk, OnOk};
 ghost use Rattle.std.specs.String.{string_bytes};
-ghost use Rattle.kat_tree.specs.Written.{text_of_tree};
-ghost use Rattle.kat_ast.specs.Specifications.{tree_of_spec, canonical_text};
+ghost use Rattle.kat_tree.specs.Written.{behind_spaces};
+ghost use Rattle.kat_ast.specs.Specifications.{Reads, canonical_text};
+ghost use Rattle.kat_print.specs.Declarations.{text_of_decl, text_of_spec};
 
-use crate::declarations::put_spec;
-use crate::printed::Printed;
-use kat_ast::Spec;
+use crate::declarations::put_decl;
+use crate::laws::reads_back;
+use kat_ast::{Decl, Spec};
+use kat_text::TextBuilder;
 use std::alloc::{AllocError, Global};
 
-// Adds the canonical text of a specification, without the newline at its end.
-#[tactic(auto, using(crate::proofs::DeclText::spec_is))]
-fn push_spec(out: &mut Printed, spec: &Spec) -> Result<(), AllocError>
-    ensures { OnOk result (out.new ≡ out.old ++ text_of_tree (tree_of_spec spec.now)) }
-{
-    put_spec(out, spec)
-}
-
-/// The canonical text of a specification: `(spec 1 D ..)` and a newline, with one space between two trees, none inside
-/// the ends of brackets, and numbers in decimal.
+/// The canonical text of a specification: `(spec V D ..)` and a newline, with one space between two
+/// trees, none inside the ends of brackets, and numbers in decimal. It reads back to the
+/// specification.
 pub fn print_spec(alloc: Global, spec: &Spec) -> Result<String, AllocError>
     ensures canonical { IfOk result (λ s. string_bytes s ≡ canonical_text spec.now) }
+    ensures read_back { IfOk result (λ s. Reads (string_bytes s) spec.now) }
 {
-    let mut out = Printed::new(alloc);
-    push_spec(&mut out, spec)?;
-    out.push("\n")?;
+    reads_back();
+    let mut out = TextBuilder::new(alloc);
+    put_spec(&mut out, spec.version(), spec.decls())?;
+    out.push_newline()?;
     Ok(out.into_string())
+}
+
+/// A version and declarations as a specification.
+fn put_spec(out: &mut TextBuilder, version: u64, decls: &[Decl]) -> Result<(), AllocError>
+    ensures { OnOk result (out.new ≡
+        out.old ++ text_of_spec (record { version = version; decls = decls.now })) }
+{
+    out.push_head("spec")?;
+    out.push_decimal_part(version)?;
+    put_decls(out, decls)?;
+    out.push_close()
+}
+
+/// Declarations, each behind a space.
+fn put_decls(out: &mut TextBuilder, decls: &[Decl]) -> Result<(), AllocError>
+    ensures { OnOk result (out.new ≡ out.old ++ behind_spaces (map text_of_decl decls.now)) }
+{
+    for decl in decls {
+        out.push_space()?;
+        put_decl(out, decl.form())?;
+    }
+    Ok(())
 }

@@ -1,6 +1,6 @@
 -- How far the parts of a list have been gone over.
-use Rattle.std.proofs.Common.{◌≡◌, ℕ, ◌+◌, ◌<◌, ◌≤◌, ◌^◌, Bool, true, false, List, [], length, map, sum, take, get_or, Option, Some, None, refl, ap, sym, ◌∙◌, subst, arith}
-use Rattle.std.specs.Prelude.{slice_get, IsSome, min}
+use Rattle.std.proofs.Common.{◌≡◌, ℕ, ◌+◌, ◌<◌, ◌≤◌, ◌^◌, true, false, List, [], length, map, sum, get_or, Option, Some, None, refl, ap, ◌∙◌, arith}
+use Rattle.std.specs.Prelude.{slice_get, IsSome}
 use Rattle.std.specs.Option.{is_some, option_and_then, unwrap_or}
 use Rattle.std.proofs.lemmas.Option.{slice_get-get_or, slice_get_read}
 use Rattle.std.proofs.lemmas.List.{take_all}
@@ -137,9 +137,9 @@ module _ (v : ℕ) (sort : Sort) (t : Tree) (parts : List Tree) (sorts : List So
   end past = (
     list_fit v sort t parts sorts is formed (below_all v sorts parts at past going.below),
     going.next_is ∙ ap capped (
-      let m = ap (λ ps. sum (map count_of ps)) (take_all at parts past) in
-      let n = ap count_of is ∙ count_of-List parts in
-      let f : place_of_part place parts at ≡ place + count_of t = omega arith in f),
+        let m = ap (λ ps. sum (map count_of ps)) (take_all at parts past) in
+        let n = ap count_of is ∙ count_of-List parts in
+        let f : place_of_part place parts at ≡ place + count_of t = omega arith in f),
   )
 
 -- a part has fewer trees than the tree

@@ -8,7 +8,7 @@ use Rattle.kat_shapes.specs.declared.misfit.Misfit.{Misfit}
 use Rattle.kat_shapes.specs.Sorts.{wanted_of}
 use Rattle.kat_shapes.specs.Fits.{fits_in}
 use Rattle.kat_shapes.specs.Version.{version_of}
-use Rattle.kat_shapes.specs.Places.{IsRead, capped, has_form, AllHaveForm, IsFirstFormless, IsFirstMisfit, IsMisfitFrom}
+use Rattle.kat_shapes.specs.Places.{IsRead, capped, has_form, AllHaveForm, IsFirstMisfit, IsMisfitFrom}
 use Rattle.kat_shapes.proofs.Reading.{one_reading}
 use Rattle.kat_shapes.proofs.Misfits.{First, outcome, fit_everywhere}
 
@@ -33,10 +33,10 @@ one_place root text a b first second = ⊎_elim
     (λ (less : first.place < second.place).
     absurd (clash (version_of root text) first.sort first.found (second.is.first first.place first.found first.sort first.is.read less) first.is.formless))
     (λ (le : second.place ≤ first.place). ⊎_elim
-        (λ (less : second.place < first.place).
-        absurd (clash (version_of root text) second.sort second.found (first.is.first second.place second.found second.sort second.is.read less) second.is.formless))
-        (λ (ge : first.place ≤ second.place). let e : first.place ≡ second.place = omega arith in e)
-        (cases_lt second.place first.place))
+    (λ (less : second.place < first.place).
+    absurd (clash (version_of root text) second.sort second.found (first.is.first second.place second.found second.sort second.is.read less) second.is.formless))
+    (λ (ge : first.place ≤ second.place). let e : first.place ≡ second.place = omega arith in e)
+    (cases_lt second.place first.place))
     (cases_lt first.place second.place)
 
 misfit_same : (a b : Misfit) → a.place ≡ b.place → a.wanted ≡ b.wanted → a ≡ b

@@ -1,5 +1,5 @@
 -- What fits in a version fits in a later one.
-use Rattle.std.proofs.Common.{◌≡◌, ℕ, zero, suc, ◌<◌, ◌≤◌, ◌==◌, if◌then◌else◌, ⊎_elim, Bool, true, false, List, [], ◌∷◌, length, Option, Some, None, refl, ap, sym, ◌∙◌, subst, arith}
+use Rattle.std.proofs.Common.{◌≡◌, ℕ, zero, suc, ◌≤◌, ◌==◌, if◌then◌else◌, ⊎_elim, Bool, true, false, List, [], ◌∷◌, length, Option, Some, None, refl, ap, sym, ◌∙◌, subst, arith}
 use Rattle.std.specs.Prelude.{nat_le}
 use Rattle.std.specs.Option.{option_and_then}
 use Rattle.std.proofs.lemmas.Bool.{leb-true, le-leb, eqb-true}
@@ -11,11 +11,11 @@ use Rattle.kat_tree.specs.declared.tree.Tree.TheOpen.{Tree-F}
 use Rattle.kat_tree.specs.declared.tree.Tree.TheViews.{out-Tree}
 use Rattle.kat_tree.specs.Preorder.{count_of}
 use Rattle.kat_shapes.specs.declared.sort.Sort.{Sort}
-use Rattle.kat_shapes.specs.declared.sort.Sort.TheVariants.{Spec, Version, Declaration, TypeName, Name, Number, RegisterPlace, CellsPlace, Statement, Expression, Assertion, Phase, Members, Params, Fields, Param, CaseArm, MatchArm, Pre, Res, Post, Steps, When, Else, Entry, Within, Change, Word}
+use Rattle.kat_shapes.specs.declared.sort.Sort.TheVariants.{Spec, Version, TypeName, Name, Number, Expression, Members, Params, Fields, Param, CaseArm, MatchArm, Word}
 use Rattle.kat_shapes.specs.Forms.{Form, row_of, words_of, forms_of, form_in, form_of_word, form_of, sorts_of, is_since, fits_token}
 use Rattle.kat_shapes.specs.Fits.{fits_in, fits}
 use Rattle.kat_shapes.specs.Version.{version_in, stated_in, version_of}
-use Rattle.kat_shapes.specs.Places.{word_before, sorts_of_parts, HaveForm, AllHaveForm, PartsFit}
+use Rattle.kat_shapes.specs.Places.{word_before, sorts_of_parts, HaveForm, AllHaveForm}
 use Rattle.kat_shapes.proofs.Layers.{atom_or_list, count_some, fits-Atom}
 use Rattle.kat_shapes.proofs.Parts.{none_some}
 use Rattle.kat_shapes.proofs.Reading.{part_less}

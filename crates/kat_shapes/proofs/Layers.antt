@@ -1,5 +1,5 @@
 -- Trees by their layers: what the definitions say of an atom and of a list.
-use Rattle.std.proofs.Common.{◌≡◌, ℕ, ◌+◌, ◌<◌, ◌⊎◌, inl, inr, ⊎_elim, Bool, true, false, List, [], ◌∷◌, length, map, sum, Option, Some, None, refl, ap, sym, ◌∙◌, arith}
+use Rattle.std.proofs.Common.{◌≡◌, ℕ, ◌+◌, ◌<◌, ◌⊎◌, inl, inr, ⊎_elim, true, List, [], ◌∷◌, length, map, sum, Option, Some, None, refl, ap, sym, ◌∙◌, arith}
 use Rattle.std.proofs.lemmas.List.{length-map}
 use Rattle.std.specs.Option.{is_some}
 use Rattle.kat_tree.specs.declared.tree.Token.{Token}
@@ -13,7 +13,7 @@ use Rattle.kat_tree.specs.declared.tree.Tree.TheFolds.{fold-roll-Tree}
 use Rattle.kat_tree.specs.Preorder.{count_in, count_of}
 use Rattle.kat_shapes.specs.declared.sort.Sort.{Sort}
 use Rattle.kat_shapes.specs.Forms.{sorts_for, fits_token}
-use Rattle.kat_shapes.specs.Fits.{Judged, judged_layer, judged_in, first_word, all_fit, list_fits, fits_in}
+use Rattle.kat_shapes.specs.Fits.{Judged, judged_layer, judged_in, first_word, list_fits, fits_in}
 use Rattle.kat_shapes.specs.Places.{word_in, word_before, sorts_of_parts, has_form_in, has_form}
 
 -- a tree is an atom or a list

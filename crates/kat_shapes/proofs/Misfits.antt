@@ -1,5 +1,5 @@
 -- The first misfit of a tree, by those of its parts.
-use Rattle.std.proofs.Common.{◌≡◌, ℕ, zero, suc, ◌+◌, ◌-◌, ◌<◌, ◌≤◌, ◌⊎◌, inl, inr, ⊎_elim, Bool, true, false, ◌==◌, if◌then◌else◌, List, [], ◌∷◌, ◌++◌, length, length-append, map, Option, Some, None, refl, ap, sym, ◌∙◌, subst, arith}
+use Rattle.std.proofs.Common.{◌≡◌, ℕ, zero, suc, ◌+◌, ◌-◌, ◌<◌, ◌≤◌, ◌⊎◌, inl, inr, ⊎_elim, Bool, true, false, ◌==◌, if◌then◌else◌, List, [], ◌++◌, length, length-append, map, Option, Some, None, refl, ap, sym, ◌∙◌, subst, arith}
 use Rattle.std.specs.Prelude.{slice_get, nat_le, replicate}
 use Rattle.std.specs.Option.{is_some, option_map, option_and_then}
 use Rattle.std.proofs.lemmas.Bool.{cases_lt, leb-true, eqb-true, true≢false}
@@ -70,18 +70,18 @@ module _ (v : ℕ) (root : Sort) (text : Tree) (parts : List Tree) (sorts : List
     earlier n u r less w = ⊎_elim
         (λ (under : w.index < at). fit_everywhere v w.inner w.one (below w.index w.one w.inner under w.here w.sorted) w.rest u r w.read)
         (λ (le : at ≤ w.index). ⊎_elim
-            (λ (past : at < w.index).
-            let b = before_later parts at w.index one past here in
-            let c = inner_less v inner one place found s first.read in
-            let e = w.at in
-            absurd (omega arith))
-            (λ (ge : w.index ≤ at).
-            let i : w.index ≡ at = omega arith in
-            let p : w.one ≡ one = some_same w.one one (slice_get parts at) (subst (λ k. slice_get parts k ≡ Some w.one) i w.here) here in
-            let q : w.inner ≡ inner = some_same w.inner inner (slice_get sorts at) (subst (λ k. slice_get sorts k ≡ Some w.inner) i w.sorted) sorted in
-            let m : w.rest < place = let e = w.at in let g = ap (λ k. before k parts) i in omega arith in
-            first.first w.rest u r (subst (λ o. IsRead v inner o w.rest u r) p (subst (λ k. IsRead v k w.one w.rest u r) q w.read)) m)
-            (cases_lt at w.index))
+        (λ (past : at < w.index).
+        let b = before_later parts at w.index one past here in
+        let c = inner_less v inner one place found s first.read in
+        let e = w.at in
+        absurd (omega arith))
+        (λ (ge : w.index ≤ at).
+        let i : w.index ≡ at = omega arith in
+        let p : w.one ≡ one = some_same w.one one (slice_get parts at) (subst (λ k. slice_get parts k ≡ Some w.one) i w.here) here in
+        let q : w.inner ≡ inner = some_same w.inner inner (slice_get sorts at) (subst (λ k. slice_get sorts k ≡ Some w.inner) i w.sorted) sorted in
+        let m : w.rest < place = let e = w.at in let g = ap (λ k. before k parts) i in omega arith in
+        first.first w.rest u r (subst (λ o. IsRead v inner o w.rest u r) p (subst (λ k. IsRead v k w.one w.rest u r) q w.read)) m)
+        (cases_lt at w.index))
         (cases_lt w.index at)
 
     pub formless_inside : IsFirstFormless v root text (1 + before at parts + place) found s
@@ -121,18 +121,18 @@ module _ (v : ℕ) (root : Sort) (text : Tree) (parts : List Tree) (sorts : List
       (λ (none : slice_get parts at ≡ None).
       scan left (at + 1) (omega arith) (below_more v sorts parts at below (λ one s a b. absurd (none_some one (sym none ∙ a)))))
       (λ (here : (one : Tree) × (slice_get parts at ≡ Some one)). ⊎_elim
-          (λ (none : slice_get sorts at ≡ None).
-          scan left (at + 1) (omega arith) (below_more v sorts parts at below (λ one s a b. absurd (none_some s (sym none ∙ b)))))
-          (λ (sorted : (s : Sort) × (slice_get sorts at ≡ Some s)). ⊎_elim
-              (λ (fit : fits_in v sorted.0 here.0 ≡ true). scan left (at + 1) (omega arith) (below_fit v sorts parts at here.0 sorted.0 below here.1 sorted.1 fit))
-              (λ (first : First v sorted.0 here.0). inr (record {
-                place = 1 + before at parts + first.place;
-                found = first.found;
-                sort = first.sort;
-                is = formless_inside v root text parts sorts is formed at here.0 sorted.0 here.1 sorted.1 below first.place first.found first.sort first.is;
-              }))
-              (part_outcome at here.0 sorted.0 here.1))
-          (option_cases (slice_get sorts at)))
+      (λ (none : slice_get sorts at ≡ None).
+      scan left (at + 1) (omega arith) (below_more v sorts parts at below (λ one s a b. absurd (none_some s (sym none ∙ b)))))
+      (λ (sorted : (s : Sort) × (slice_get sorts at ≡ Some s)). ⊎_elim
+      (λ (fit : fits_in v sorted.0 here.0 ≡ true). scan left (at + 1) (omega arith) (below_fit v sorts parts at here.0 sorted.0 below here.1 sorted.1 fit))
+      (λ (first : First v sorted.0 here.0). inr (record {
+        place = 1 + before at parts + first.place;
+        found = first.found;
+        sort = first.sort;
+        is = formless_inside v root text parts sorts is formed at here.0 sorted.0 here.1 sorted.1 below first.place first.found first.sort first.is;
+      }))
+      (part_outcome at here.0 sorted.0 here.1))
+      (option_cases (slice_get sorts at)))
       (option_cases (slice_get parts at))
 
 no_form : (v : ℕ) (s : Sort) (t : Tree) → has_form v s t ≡ false → Outcome v s t
@@ -143,16 +143,16 @@ pub outcome : (fuel v : ℕ) (s : Sort) (t : Tree) → count_of t ≤ fuel → O
 outcome zero v s t room = absurd (omega (arith, count_some t))
 outcome (suc fuel) v s t room = ⊎_elim
     (λ (a : (token : Token) × (t ≡ tree.Atom token)). ⊎_elim
-        (λ (yes : fits_token v s a.0 ≡ true). inl (ap (fits_in v s) a.1 ∙ fits-Atom v s a.0 ∙ yes))
-        (λ (no : fits_token v s a.0 ≡ false). no_form v s t (ap (has_form v s) a.1 ∙ has_form-Atom v s a.0 ∙ no))
-        (bool_cases (fits_token v s a.0)))
+    (λ (yes : fits_token v s a.0 ≡ true). inl (ap (fits_in v s) a.1 ∙ fits-Atom v s a.0 ∙ yes))
+    (λ (no : fits_token v s a.0 ≡ false). no_form v s t (ap (has_form v s) a.1 ∙ has_form-Atom v s a.0 ∙ no))
+    (bool_cases (fits_token v s a.0)))
     (λ (l : (parts : List Tree) × (t ≡ tree.List parts)). ⊎_elim
-        (λ (none : sorts_of_parts v s l.0 ≡ None). no_form v s t (ap (has_form v s) l.1 ∙ has_form-List v s l.0 ∙ ap is_some none))
-        (λ (formed : (sorts : List Sort) × (sorts_of_parts v s l.0 ≡ Some sorts)).
-        scan v s t l.0 formed.0 l.1 formed.1
-        (λ i one r here. outcome fuel v r one (omega (arith, part_less t l.0 i one l.1 here)))
-        (length l.0) 0 (omega arith) (below_none v formed.0 l.0))
-        (option_cases (sorts_of_parts v s l.0)))
+    (λ (none : sorts_of_parts v s l.0 ≡ None). no_form v s t (ap (has_form v s) l.1 ∙ has_form-List v s l.0 ∙ ap is_some none))
+    (λ (formed : (sorts : List Sort) × (sorts_of_parts v s l.0 ≡ Some sorts)).
+    scan v s t l.0 formed.0 l.1 formed.1
+    (λ i one r here. outcome fuel v r one (omega (arith, part_less t l.0 i one l.1 here)))
+    (length l.0) 0 (omega arith) (below_none v formed.0 l.0))
+    (option_cases (sorts_of_parts v s l.0)))
     (atom_or_list t)
 
 -- what has a form everywhere fits

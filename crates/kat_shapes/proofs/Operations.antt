@@ -1,10 +1,10 @@
 -- The rows of operations are those of their table.
-use Rattle.std.proofs.Common.{◌≡◌, ℕ, Bool, true, false, if◌then◌else◌, List, [], ◌∷◌, map, Option, Some, None, refl}
+use Rattle.std.proofs.Common.{◌≡◌, ℕ, Bool, true, false, if◌then◌else◌, List, [], ◌∷◌, map, Option, Some, refl}
 use Rattle.std.specs.Str.{bytes_eq}
 use Rattle.std.specs.Option.{option_map}
 use Rattle.kat_value.specs.declared.op.Op.{Op}
 use Rattle.kat_value.specs.Words.{word_of_op, op_among, written_ops, op_of_word}
-use Rattle.kat_shapes.specs.Forms.{Form, Rows, row_of, form_of_op, operations}
+use Rattle.kat_shapes.specs.Forms.{Form, row_of, form_of_op, operations}
 
 here : (op : Op) (w : List ℕ) (rows : Option Form) (ops : Option Op) (b : Bool) → rows ≡ option_map form_of_op ops →
     (if b then Some (form_of_op op) else rows) ≡ option_map form_of_op (if b then Some op else ops)

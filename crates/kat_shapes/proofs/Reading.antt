@@ -1,5 +1,5 @@
 -- What is read in a tree.
-use Rattle.std.proofs.Common.{◌≡◌, ℕ, zero, suc, ◌+◌, ◌<◌, ◌≤◌, ◌⊎◌, inl, inr, ⊎_elim, Bool, true, false, List, [], ◌∷◌, length, map, sum, take, Option, Some, None, refl, ap, sym, ◌∙◌, subst, arith}
+use Rattle.std.proofs.Common.{◌≡◌, ℕ, zero, suc, ◌+◌, ◌<◌, ◌≤◌, ◌⊎◌, inl, inr, ⊎_elim, true, List, map, Option, Some, refl, ap, sym, ◌∙◌, subst, arith}
 use Rattle.std.specs.Prelude.{slice_get}
 use Rattle.std.proofs.lemmas.Bool.{cases_lt}
 use Rattle.kat_tree.specs.declared.tree.Tree.{Tree}
@@ -131,9 +131,9 @@ one_index : (parts : List Tree) (i j m n : ℕ) (p q : Tree) → slice_get parts
 one_index parts i j m n p q here there less_m less_n same = ⊎_elim
     (λ (less : i < j). absurd (let b = before_later parts i j p less here in omega arith))
     (λ (le : j ≤ i). ⊎_elim
-        (λ (less : j < i). absurd (let b = before_later parts j i q less there in omega arith))
-        (λ (ge : i ≤ j). let e : i ≡ j = omega arith in e)
-        (cases_lt j i))
+    (λ (less : j < i). absurd (let b = before_later parts j i q less there in omega arith))
+    (λ (ge : i ≤ j). let e : i ≡ j = omega arith in e)
+    (cases_lt j i))
     (cases_lt i j)
 
 pub inner_less : (v : ℕ) (root : Sort) (text : Tree) (place : ℕ) (t : Tree) (s : Sort) → IsRead v root text place t s → place < count_of text
@@ -152,21 +152,21 @@ pub one_reading : (fuel v : ℕ) (root : Sort) (text : Tree) → count_of text �
 one_reading zero v root text room place t u s r a b = absurd (omega (arith, count_some text))
 one_reading (suc fuel) v root text room place t u s r a b = ⊎_elim
     (λ (x : Itself root text place t s). ⊎_elim
-        (λ (y : Itself root text place u r). let p : Same t u s r = (x.same ∙ sym y.same, x.sort ∙ sym y.sort) in p)
-        (λ (y : Inside v root text place u r). let e = x.at in let f = y.within.at in absurd (omega arith))
-        (inward v root text place u r b))
+    (λ (y : Itself root text place u r). let p : Same t u s r = (x.same ∙ sym y.same, x.sort ∙ sym y.sort) in p)
+    (λ (y : Inside v root text place u r). let e = x.at in let f = y.within.at in absurd (omega arith))
+    (inward v root text place u r b))
     (λ (x : Inside v root text place t s). ⊎_elim
-        (λ (y : Itself root text place u r). let e = y.at in let f = x.within.at in absurd (omega arith))
-        (λ (y : Inside v root text place u r).
-        let w = x.within in
-        let z = within_of v root text place u r x.parts x.sorts x.is x.formed y in
-        let i : w.index ≡ z.index =
-        one_index x.parts w.index z.index w.rest z.rest w.one z.one w.here z.here (inner_less v w.inner w.one w.rest t s w.read) (inner_less v z.inner z.one z.rest u r z.read) (sym w.at ∙ z.at) in
-        let p : z.one ≡ w.one = some_same z.one w.one (slice_get x.parts w.index) (subst (λ k. slice_get x.parts k ≡ Some z.one) (sym i) z.here) w.here in
-        let q : z.inner ≡ w.inner = some_same z.inner w.inner (slice_get x.sorts w.index) (subst (λ k. slice_get x.sorts k ≡ Some z.inner) (sym i) z.sorted) w.sorted in
-        let m : z.rest ≡ w.rest = let e = w.at in let f = z.at in let g = ap (λ k. before k x.parts) i in omega arith in
-        let moved : IsRead v w.inner w.one w.rest u r =
-        subst (λ n. IsRead v w.inner w.one n u r) m (subst (λ o. IsRead v w.inner o z.rest u r) p (subst (λ k. IsRead v k z.one z.rest u r) q z.read)) in
-        one_reading fuel v w.inner w.one (omega (arith, part_less text x.parts w.index w.one x.is w.here)) w.rest t u s r w.read moved)
-        (inward v root text place u r b))
+    (λ (y : Itself root text place u r). let e = y.at in let f = x.within.at in absurd (omega arith))
+    (λ (y : Inside v root text place u r).
+    let w = x.within in
+    let z = within_of v root text place u r x.parts x.sorts x.is x.formed y in
+    let i : w.index ≡ z.index =
+    one_index x.parts w.index z.index w.rest z.rest w.one z.one w.here z.here (inner_less v w.inner w.one w.rest t s w.read) (inner_less v z.inner z.one z.rest u r z.read) (sym w.at ∙ z.at) in
+    let p : z.one ≡ w.one = some_same z.one w.one (slice_get x.parts w.index) (subst (λ k. slice_get x.parts k ≡ Some z.one) (sym i) z.here) w.here in
+    let q : z.inner ≡ w.inner = some_same z.inner w.inner (slice_get x.sorts w.index) (subst (λ k. slice_get x.sorts k ≡ Some z.inner) (sym i) z.sorted) w.sorted in
+    let m : z.rest ≡ w.rest = let e = w.at in let f = z.at in let g = ap (λ k. before k x.parts) i in omega arith in
+    let moved : IsRead v w.inner w.one w.rest u r =
+    subst (λ n. IsRead v w.inner w.one n u r) m (subst (λ o. IsRead v w.inner o z.rest u r) p (subst (λ k. IsRead v k z.one z.rest u r) q z.read)) in
+    one_reading fuel v w.inner w.one (omega (arith, part_less text x.parts w.index w.one x.is w.here)) w.rest t u s r w.read moved)
+    (inward v root text place u r b))
     (inward v root text place t s a)

@@ -1,5 +1,5 @@
 -- The table of forms: the word with which each begins, and what its parts are read as.
-use Rattle.std.specs.Prelude.{ℕ, ◌+◌, ◌-◌, ◌==◌, nat_le, Bool, true, false, ◌&&◌, ◌||◌, not, if◌then◌else◌, List, [], ◌∷◌, ◌++◌, length, map, replicate, codes, Option, Some, None}
+use Rattle.std.specs.Prelude.{ℕ, ◌+◌, ◌-◌, ◌==◌, nat_le, Bool, true, false, ◌&&◌, not, if◌then◌else◌, List, [], ◌∷◌, ◌++◌, length, map, replicate, codes, Option, Some, None}
 use Rattle.std.specs.Option.{option_map, option_and_then}
 use Rattle.std.specs.Str.{bytes_eq}
 use Rattle.kat_tree.specs.declared.tree.Token.{Token}
@@ -8,6 +8,7 @@ use Rattle.kat_value.specs.declared.op.Op.{Op}
 use Rattle.kat_value.specs.Words.{word_of_op, numbers_of_op, arity_of, written_ops}
 use Rattle.kat_shapes.specs.declared.sort.Sort.{Sort}
 use Rattle.kat_shapes.specs.declared.sort.Sort.TheVariants.{Spec, Version, Declaration, TypeName, Name, Number, RegisterPlace, CellsPlace, Statement, Expression, Assertion, Phase, Members, Params, Fields, Param, CaseArm, MatchArm, Pre, Res, Post, Steps, When, Else, Entry, Within, Change, Word}
+pub use Rattle.kat_value.specs.Words.{is_name}
 
 -- Parts of these sorts, then any number of one sort, then last parts; with no sort in the middle none
 -- stand there. The word that begins a form is a part too. It is there from a version on.
@@ -189,7 +190,7 @@ abbrev pub sorts_of : Form → ℕ → Option (List Sort)
 sorts_of form count =
     if nat_le (length form.first + length form.last) count
     then option_map (λ sorts. form.first ++ sorts ++ form.last)
-        (middles form.middle (count - (length form.first + length form.last)))
+    (middles form.middle (count - (length form.first + length form.last)))
     else None
 
 -- what the parts of a list are read as, by its first word and their count; none where it has no
@@ -197,12 +198,6 @@ sorts_of form count =
 abbrev pub sorts_for : ℕ → Sort → Option (List ℕ) → ℕ → Option (List Sort)
 sorts_for version sort first count =
     option_and_then (λ form. sorts_of form count) (form_of version sort first)
-
--- a name other than `true`, `false` and `unit`
-abbrev pub is_name : List ℕ → Bool
-is_name x =
-    not (bytes_eq x (codes "true"))
-    && (not (bytes_eq x (codes "false")) && not (bytes_eq x (codes "unit")))
 
 -- a version that there is
 abbrev pub is_version : ℕ → Bool

@@ -42,11 +42,11 @@ has_form version sort t = has_form_in version sort (out-Tree t)
 pub data IsRead (version : ℕ) (root : Sort) (text : Tree) : ℕ → Tree → Sort → Type 0 where
   whole : IsRead version root text 0 text root
   part : (place i : ℕ) (parts : List Tree) (sort : Sort) (sorts : List Sort)
-    (one : Tree) (sort_of_one : Sort) →
-    IsRead version root text place (tree.List parts) sort →
-    sorts_of_parts version sort parts ≡ Some sorts →
-    slice_get parts i ≡ Some one → slice_get sorts i ≡ Some sort_of_one →
-    IsRead version root text (place_of_part place parts i) one sort_of_one
+      (one : Tree) (sort_of_one : Sort) →
+      IsRead version root text place (tree.List parts) sort →
+      sorts_of_parts version sort parts ≡ Some sorts →
+      slice_get parts i ≡ Some one → slice_get sorts i ≡ Some sort_of_one →
+      IsRead version root text (place_of_part place parts i) one sort_of_one
 
 -- each tree in a tree that is read as something has a form there
 abbrev pub HaveForm : ℕ → Sort → Tree → Type 0
@@ -67,7 +67,7 @@ pub record IsFirstFormless (version : ℕ) (root : Sort) (text : Tree)
   pub read : IsRead version root text place found sort
   pub formless : has_form version sort found ≡ false
   pub first : (before : ℕ) (t : Tree) (s : Sort) →
-    IsRead version root text before t s → before < place → has_form version s t ≡ true
+      IsRead version root text before t s → before < place → has_form version s t ≡ true
 
 -- the tree at the least place that is read as something and has no form there, and what is wanted
 pub record IsFirstMisfit (root : Sort) (text : Tree) (misfit : Misfit) : Type 0 where
@@ -94,5 +94,5 @@ pub record PartsFit (version : ℕ) (sort : Sort) (parts : List Tree) : Type 0 w
   pub form : sorts_of_parts version sort parts ≡ Some sorts
   pub count : length sorts ≡ length parts
   pub each : (i : ℕ) (part : Tree) (part_sort : Sort) →
-    slice_get parts i ≡ Some part → slice_get sorts i ≡ Some part_sort →
-    fits_in version part_sort part ≡ true
+      slice_get parts i ≡ Some part → slice_get sorts i ≡ Some part_sort →
+      fits_in version part_sort part ≡ true

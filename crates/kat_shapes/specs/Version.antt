@@ -1,5 +1,5 @@
 -- The version that a text states.
-use Rattle.std.specs.Prelude.{ℕ, if◌then◌else◌, List, ◌∷◌}
+use Rattle.std.specs.Prelude.{ℕ, if◌then◌else◌, ◌∷◌}
 use Rattle.kat_tree.specs.declared.tree.Token.TheVariants as token
 use Rattle.kat_tree.specs.declared.tree.Tree.{Tree}
 use Rattle.kat_tree.specs.declared.tree.Tree.TheOpen.{Tree-F}

@@ -33,7 +33,7 @@ pub fn judge(tree: &Tree, root: Sort) -> Result<(), Misfit>
 fn judge_from(version: u64, tree: &Tree, sort: Sort, place: u64) -> Result<u64, Misfit>
     ensures { MatchResult result
         (λ next. (fits_in version sort tree.now ≡ true)
-            × (next ≡ capped (place + count_of tree.now)))
+        × (next ≡ capped (place + count_of tree.now)))
         (IsMisfitFrom version sort tree.now place) }
 {
     match tree {

@@ -3,6 +3,7 @@
 ghost use Rattle.std.specs.Prelude.{◌≡◌, ◌+◌, ◌<◌, ◌^◌, true, IfOk};
 ghost use Rattle.kat_names.specs.Names.{position_of};
 ghost use Rattle.kat_ast.specs.Statements.{trees_of_stm};
+ghost use Rattle.kat_ast.specs.Limits.{decl_trees_bound};
 ghost use Rattle.kat_syntax.specs.FirstForm.{is_first_stm};
 ghost use Rattle.kat_syntax.specs.Runnable.{IsRunnable};
 ghost use Rattle.kat_syntax.specs.Cycle.{register_names};
@@ -89,7 +90,7 @@ impl Checked {
     /// The function that a cycle calls.
     pub fn step_function(&self) -> StepFunction<'_>
         ensures found { IsStepFunction self.now result.decl result.body.now result.body_at }
-        ensures small { result.body_at + trees_of_stm result.body.now < 2 ^ 32 }
+        ensures small { result.body_at + trees_of_stm result.body.now < decl_trees_bound }
         ensures first { is_first_stm result.body.now ≡ true }
     {
         places_are_of_the_tree();

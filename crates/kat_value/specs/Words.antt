@@ -1,10 +1,16 @@
--- How operations are written: a word, numbers, and arguments.
-use Rattle.std.specs.Prelude.{ℕ, Bool, true, false, if◌then◌else◌, List, [], ◌∷◌, Option, Some, None, codes}
+-- The words of values and of operations: which words are names, and how operations are written.
+use Rattle.std.specs.Prelude.{ℕ, Bool, true, false, ◌&&◌, not, if◌then◌else◌, List, [], ◌∷◌, Option, Some, None, codes}
 use Rattle.std.specs.Str.{bytes_eq}
 use Rattle.kat_value.specs.declared.op.Op.{Op}
 use Rattle.kat_value.specs.declared.op.Op.TheVariants.{Not, And, Or, Eq, Ult, Ule, Slt, Sle, Add, Sub, Mul, Band, Bor, Bxor, Bnot, Shl, Shr, Sar, Slice, Cat, Zext, Sext, Ite, Get}
 use Rattle.kat_value.specs.declared.words.OpNumbers.{OpNumbers}
 use Rattle.kat_value.specs.declared.words.OpNumbers.TheVariants.{Zero, One, Two}
+
+-- a word may name something, but for those of values: `true`, `false` and `unit`
+abbrev pub is_name : List ℕ → Bool
+is_name x =
+    not (bytes_eq x (codes "true"))
+    && (not (bytes_eq x (codes "false")) && not (bytes_eq x (codes "unit")))
 
 -- the word of an operation
 abbrev pub word_of_op : Op → List ℕ

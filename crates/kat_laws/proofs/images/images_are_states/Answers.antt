@@ -1,4 +1,4 @@
-use Rattle.kat_laws.proofs.Images.{images_are_states}
+use Rattle.kat_laws.proofs.ImageStates.{images_are_states}
 use Rattle.kat_laws.proofs.images.images_are_states.Goals as goal
 
 pub returns : goal.returns

@@ -1,6 +1,6 @@
 use Rattle.std.proofs.Common.{◌≡◌, ◌++◌, drop, map}
 use Rattle.kat_tree.specs.Written.{behind_spaces}
-use Rattle.kat_print.specs.Texts.{text_of_assertion}
+use Rattle.kat_print.specs.Assertions.{text_of_assertion}
 use Rattle.kat_print.proofs.assertions.+assertion.Given as goal
 
 -- the parts that are still to come make the text whole

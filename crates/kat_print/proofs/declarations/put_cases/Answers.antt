@@ -1,8 +1,9 @@
 use Rattle.std.proofs.Common.{arith, [], ◌∷◌, map}
 use Rattle.std.specs.Prelude.{codes}
 use Rattle.std.proofs.lemmas.Grind.{common_steps}
-use Rattle.kat_print.specs.Texts.{listed, text_of_phase, text_of_when}
-use Rattle.kat_print.proofs.Spaces.{behind_spaces_last}
+use Rattle.kat_print.specs.Lists.{listed}
+use Rattle.kat_print.specs.Declarations.{text_of_phase, text_of_when}
+use Rattle.kat_print.proofs.Forms.{behind_spaces_last}
 use Rattle.kat_print.proofs.declarations.put_cases.Goals as goal
 
 -- the last case stands behind the others

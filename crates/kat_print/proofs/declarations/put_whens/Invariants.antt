@@ -1,6 +1,6 @@
 use Rattle.std.proofs.Common.{◌≡◌, ◌++◌, drop, map}
 use Rattle.kat_tree.specs.Written.{behind_spaces}
-use Rattle.kat_print.specs.Texts.{text_of_when}
+use Rattle.kat_print.specs.Declarations.{text_of_when}
 use Rattle.kat_print.proofs.declarations.put_whens.Given as goal
 
 -- the cases that are still to come make the text whole

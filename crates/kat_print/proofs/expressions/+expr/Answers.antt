@@ -1,4 +1,4 @@
-use Rattle.kat_print.proofs.Layers.{text-BeforeCell}
+use Rattle.kat_print.proofs.ExpressionTexts.{text-BeforeCell}
 use Rattle.kat_print.proofs.expressions.+expr.Goals as goal
 
 pub put_expr-returns-in-BeforeCell : goal.put_expr-returns-in-BeforeCell

@@ -1,6 +1,6 @@
 use Rattle.std.proofs.Common.{◌≡◌, ◌++◌, drop, map}
 use Rattle.kat_tree.specs.Written.{behind_spaces}
-use Rattle.kat_print.specs.Texts.{text_of_expr}
+use Rattle.kat_print.specs.Expressions.{text_of_expr}
 use Rattle.kat_print.proofs.expressions.+expr.Given as goal
 
 -- the expressions that are still to come make the text whole

@@ -1,6 +1,6 @@
 use Rattle.std.proofs.Common.{◌≡◌, ◌++◌, drop, map}
 use Rattle.kat_tree.specs.Written.{behind_spaces}
-use Rattle.kat_print.specs.Texts.{text_of_param}
+use Rattle.kat_print.specs.Types.{text_of_param}
 use Rattle.kat_print.proofs.types.put_more_params.Given as goal
 
 -- the parameters that are still to come make the text whole

@@ -1,11 +1,11 @@
 -- The parts of a list are gone over in order, each as what it is read as.
-use Rattle.std.proofs.Common.{length, get_or, ap, refl, sym, ◌∙◌, arith, true, false, ◌≡◌}
+use Rattle.std.proofs.Common.{length, get_or, ap, refl, sym, ◌∙◌, arith}
 use Rattle.std.proofs.lemmas.Bool.{false≢true}
 use Rattle.std.proofs.lemmas.Result.{err_from_is_err_and}
 use Rattle.kat_tree.specs.declared.tree.Tree.TheVariants as variant
 use Rattle.kat_shapes.specs.Seen.{seen_form}
 use Rattle.kat_shapes.specs.Forms.{form_of, sorts_of}
-use Rattle.kat_shapes.proofs.Going.{sort_here, has_sort, part_here, formed_of, formless_list, uncounted_list, formless_atom, misfit_here, atom_fits, step, refused, end, fewer, start}
+use Rattle.kat_shapes.proofs.Going.{sort_here, has_sort, part_here, formed_of, formless_list, uncounted_list, formless_atom, misfit_here, step, refused, end, fewer}
 use Rattle.kat_shapes.proofs.judging.+judge_from.Goals as goal
 
 pub returns-in_default : goal.returns-in_default

@@ -1,4 +1,4 @@
-use Rattle.std.proofs.Common.{◌≡◌, true, ap, sym, ◌∙◌, subst}
+use Rattle.std.proofs.Common.{ap, sym, ◌∙◌}
 use Rattle.kat_shapes.specs.Fits.{fits_in}
 use Rattle.kat_shapes.proofs.Misfits.{fit_everywhere}
 use Rattle.kat_shapes.proofs.judging.judge.Goals as goal

@@ -1,4 +1,4 @@
-use Rattle.std.proofs.Common.{◌≤◌, arith}
+use Rattle.std.proofs.Common.{arith}
 use Rattle.kat_tree.specs.Preorder.{count_of}
 use Rattle.kat_shapes.proofs.Reading.{read_at, one_reading}
 use Rattle.kat_shapes.proofs.laws.readings.Goals as goal

@@ -1,7 +1,7 @@
 use Rattle.std.proofs.Common.{◌≡◌, ◌++◌, drop, map}
 use Rattle.kat_tree.specs.Written.{behind_spaces}
-use Rattle.kat_print.specs.Texts.{text_of_decl}
-use Rattle.kat_print.proofs.declarations.put_decls.Given as goal
+use Rattle.kat_print.specs.Declarations.{text_of_decl}
+use Rattle.kat_print.proofs.print.put_decls.Given as goal
 
 -- the declarations that are still to come make the text whole
 abbrev pub invariant-loop-decl : goal.invariant-loop-decl

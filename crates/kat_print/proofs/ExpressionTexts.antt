@@ -5,16 +5,17 @@ use Rattle.std.specs.Fmt.{decimal}
 use Rattle.kat_tree.specs.declared.tree.Tree.{Tree}
 use Rattle.kat_tree.specs.Written.{behind_spaces, text_of_tree}
 use Rattle.kat_value.specs.declared.op.Op.{Op}
-use Rattle.kat_value.specs.declared.op.Op.TheVariants as op
+use Rattle.kat_value.specs.Words.{word_of_op, numbers_of_op}
 use Rattle.kat_ast.specs.declared.expr.Expr.{Expr}
 use Rattle.kat_ast.specs.declared.expr.Expr.TheOpen.{Expr-F, Name, Unit, Truth, Bits, Of, Make, Rec, Register, Kept, KeptCell, Before, After, BeforeCell, AfterCell, Apply, Get}
-use Rattle.kat_ast.specs.declared.expr.Expr.TheFolds.{map-Expr, fold-roll-Expr, ind-Expr}
-use Rattle.kat_value.specs.Words.{word_of_op}
+use Rattle.kat_ast.specs.declared.expr.Expr.TheFolds.{map-Expr, fold-roll-Expr, ind-Expr, fold_out-Expr}
 use Rattle.kat_ast.specs.Parts.{word, number, form}
 use Rattle.kat_ast.specs.Expressions.{numbers_before, expr_tree, tree_of_expr}
-use Rattle.kat_print.specs.Texts.{listed, number_texts, text_of_op, expr_text, text_of_expr}
-use Rattle.kat_print.proofs.Spaces.{behind_spaces-append}
-use Rattle.kat_print.proofs.Forms.{of_word, of_number, of_form, of_one, of_two, of_more, both}
+use Rattle.kat_ast.specs.declared.expr.Expr.TheVariants as expr
+use Rattle.kat_ast.specs.declared.expr.Expr.TheViews.{out-Expr, outs-BeforeCell}
+use Rattle.kat_print.specs.Lists.{listed}
+use Rattle.kat_print.specs.Expressions.{number_texts, text_of_op, expr_text, text_of_expr}
+use Rattle.kat_print.proofs.Forms.{behind_spaces-append, of_word, of_number, of_form, of_one, of_two, of_more, both}
 
 abbrev IsText : Expr → Type 0
 IsText e = text_of_expr e ≡ text_of_tree (tree_of_expr e)
@@ -27,22 +28,16 @@ parts_text [] = refl
 parts_text (p ∷ ps) =
     both (tree_of_expr p.0) (map tree_of_expr (map (λ e. e.0) ps)) (text_of_expr p.0) (map text_of_expr (map (λ e. e.0) ps)) (sym p.1) (parts_text ps)
 
-numbers_text : (o : Op) (trees : List Tree) → map text_of_tree (numbers_before o ++ trees) ≡ number_texts o ++ map text_of_tree trees
-numbers_text (op.Slice hi lo) trees =
-    both (number hi) (number lo ∷ trees) (decimal hi) (decimal lo ∷ map text_of_tree trees) (of_number hi)
-    (both (number lo) trees (decimal lo) (map text_of_tree trees) (of_number lo) refl)
-numbers_text (op.Zext width) trees = both (number width) trees (decimal width) (map text_of_tree trees) (of_number width) refl
-numbers_text (op.Sext width) trees = both (number width) trees (decimal width) (map text_of_tree trees) (of_number width) refl
-numbers_text (op.Get of field) trees =
-    both (number of) (number field ∷ trees) (decimal of) (decimal field ∷ map text_of_tree trees) (of_number of)
-    (both (number field) trees (decimal field) (map text_of_tree trees) (of_number field) refl)
-numbers_text _ trees = refl
+numbers_text : (ns : List ℕ) (trees : List Tree) → map text_of_tree (map number ns ++ trees) ≡ map decimal ns ++ map text_of_tree trees
+numbers_text [] trees = refl
+numbers_text (n ∷ ns) trees =
+    both (number n) (map number ns ++ trees) (decimal n) (map decimal ns ++ map text_of_tree trees) (of_number n) (numbers_text ns trees)
 
 apply_text : (o : Op) (trees : List Tree) (texts : List (List ℕ)) → map text_of_tree trees ≡ texts →
     listed (text_of_op o) texts ≡ text_of_tree (form (word_of_op o) (numbers_before o ++ trees))
 apply_text o trees texts is = sym (
     of_form (word_of_op o) (numbers_before o ++ trees)
-    ∙ ap (listed (word_of_op o)) (numbers_text o trees ∙ ap (λ ts. number_texts o ++ ts) is)
+    ∙ ap (listed (word_of_op o)) (numbers_text (numbers_of_op o) trees ∙ ap (λ ts. number_texts o ++ ts) is)
     ∙ ap (λ t. 40 ∷ ((word_of_op o ++ t) ++ 41 ∷ [])) (behind_spaces-append (number_texts o) texts)
     ∙ ap (λ t. 40 ∷ (t ++ 41 ∷ [])) (sym (append_assoc (word_of_op o) (behind_spaces (number_texts o)) (behind_spaces texts))))
 
@@ -82,3 +77,9 @@ of_expr e = sym (expr_is e)
 pub of_exprs : (es : List Expr) → map text_of_tree (map tree_of_expr es) ≡ map text_of_expr es
 of_exprs [] = refl
 of_exprs (e ∷ es) = both (tree_of_expr e) (map tree_of_expr es) (text_of_expr e) (map text_of_expr es) (of_expr e) (of_exprs es)
+
+text_at : (e : Expr) (y : Expr-F Expr) → out-Expr e ≡ y → text_of_expr e ≡ expr_text (map-Expr Expr (List ℕ) text_of_expr y)
+text_at e y is = fold_out-Expr (List ℕ) expr_text e ∙ ap (λ z. expr_text (map-Expr Expr (List ℕ) text_of_expr z)) is
+
+pub text-BeforeCell : (e : Expr) (i : ℕ) → e ≡ expr.BeforeCell i → text_of_expr e ≡ listed (codes "before_cell") (decimal i ∷ [])
+text-BeforeCell e i is = text_at e (BeforeCell i) (ap out-Expr is ∙ outs-BeforeCell i)

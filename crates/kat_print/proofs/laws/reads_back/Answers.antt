@@ -1,6 +1,6 @@
 use Rattle.std.proofs.Common.{refl}
 use Rattle.kat_ast.specs.Specifications.{tree_of_spec}
-use Rattle.kat_print.proofs.law.reads_back.Goals as goal
+use Rattle.kat_print.proofs.laws.reads_back.Goals as goal
 
 -- the tree that the text spells is that of the specification
 pub returns : goal.returns

@@ -1,39 +1,23 @@
--- The texts of types, parameters and assertions are those of their trees.
+-- The text of an assertion is that of its tree.
 use Rattle.std.proofs.Common.{◌≡◌, ℕ, List, [], ◌∷◌, map, sym, ap, ◌∙◌, refl, subst}
 use Rattle.std.specs.Prelude.{codes}
-use Rattle.std.specs.Fmt.{decimal}
 use Rattle.kat_tree.specs.declared.tree.Tree.{Tree}
 use Rattle.kat_tree.specs.declared.tree.Tree.TheVariants as tree
 use Rattle.kat_tree.specs.Written.{text_of_tree}
-use Rattle.kat_ast.specs.declared.type_name.TypeName.{TypeName}
-use Rattle.kat_ast.specs.declared.type_name.TypeName.TheVariants as t
-use Rattle.kat_ast.specs.declared.type_name.Param.{Param}
 use Rattle.kat_ast.specs.declared.assertion.Assertion.{Assertion}
 use Rattle.kat_ast.specs.declared.assertion.Assertion.TheOpen.{Assertion-F, Pure, Register, Cell, Star, If, Exists, Predicate, Region}
 use Rattle.kat_ast.specs.declared.assertion.Assertion.TheFolds.{map-Assertion, fold-roll-Assertion, ind-Assertion}
-use Rattle.kat_ast.specs.Parts.{word, number}
-use Rattle.kat_ast.specs.Types.{tree_of_type, tree_of_param, tree_of_params}
+use Rattle.kat_ast.specs.Parts.{word}
+use Rattle.kat_ast.specs.Types.{tree_of_type}
 use Rattle.kat_ast.specs.Expressions.{tree_of_expr}
 use Rattle.kat_ast.specs.Assertions.{assertion_tree, tree_of_assertion}
-use Rattle.kat_print.specs.Texts.{bracketed, listed, text_of_type, text_of_param, text_of_params, text_of_expr, assertion_text, text_of_assertion}
-use Rattle.kat_print.proofs.Forms.{of_word, of_number, of_list, of_one, of_two, of_all, both, pair, three, named}
-use Rattle.kat_print.proofs.ExprText.{of_expr, of_exprs}
-
-pub of_type : (type : TypeName) → text_of_tree (tree_of_type type) ≡ text_of_type type
-of_type t.Unit = of_word (codes "unit")
-of_type t.Bool = of_word (codes "bool")
-of_type (t.Bits n) = sym (of_one (codes "bits") (number n) (decimal n) (of_number n))
-of_type (t.Named x) = of_word x
-
-of_param : (x : Param) → text_of_tree (tree_of_param x) ≡ text_of_param x
-of_param x = pair (word x.name) (tree_of_type x.ty) x.name (text_of_type x.ty) (of_word x.name) (of_type x.ty)
-
-of_each : (xs : List Param) → map text_of_tree (map tree_of_param xs) ≡ map text_of_param xs
-of_each [] = refl
-of_each (x ∷ xs) = both (tree_of_param x) (map tree_of_param xs) (text_of_param x) (map text_of_param xs) (of_param x) (of_each xs)
-
-pub of_params : (xs : List Param) → text_of_tree (tree_of_params xs) ≡ text_of_params xs
-of_params xs = of_list (map tree_of_param xs) ∙ ap bracketed (of_each xs)
+use Rattle.kat_print.specs.Lists.{listed}
+use Rattle.kat_print.specs.Types.{text_of_type}
+use Rattle.kat_print.specs.Expressions.{text_of_expr}
+use Rattle.kat_print.specs.Assertions.{assertion_text, text_of_assertion}
+use Rattle.kat_print.proofs.Forms.{of_word, of_one, of_two, of_all, both, pair, three, named}
+use Rattle.kat_print.proofs.TypeTexts.{of_type}
+use Rattle.kat_print.proofs.ExpressionTexts.{of_expr, of_exprs}
 
 abbrev IsText : Assertion → Type 0
 IsText a = text_of_assertion a ≡ text_of_tree (tree_of_assertion a)

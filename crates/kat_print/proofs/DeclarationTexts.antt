@@ -1,5 +1,5 @@
 -- The texts of declarations and specifications are those of their trees.
-use Rattle.std.proofs.Common.{◌≡◌, ℕ, List, [], ◌∷◌, ◌++◌, map, sym, ap, ◌∙◌, refl}
+use Rattle.std.proofs.Common.{◌≡◌, ℕ, List, [], ◌∷◌, ◌++◌, map, sym, ap, ap₂, ◌∙◌, refl}
 use Rattle.std.specs.Prelude.{codes}
 use Rattle.std.specs.Fmt.{decimal}
 use Rattle.kat_tree.specs.declared.tree.Tree.{Tree}
@@ -19,11 +19,17 @@ use Rattle.kat_ast.specs.Statements.{tree_of_stm}
 use Rattle.kat_ast.specs.Assertions.{tree_of_assertion}
 use Rattle.kat_ast.specs.Declarations.{tree_of_phase, tree_of_when, word_of_register_kind, word_of_cells_kind, holding, tree_of_decl}
 use Rattle.kat_ast.specs.Specifications.{tree_of_spec}
-use Rattle.kat_print.specs.Texts.{bracketed, listed, text_of_type, text_of_params, text_of_expr, text_of_stm, text_of_assertion, text_of_phase, text_of_when, text_holding, text_of_decl, text_of_spec}
+use Rattle.kat_print.specs.Lists.{bracketed, listed}
+use Rattle.kat_print.specs.Types.{text_of_type, text_of_params}
+use Rattle.kat_print.specs.Expressions.{text_of_expr}
+use Rattle.kat_print.specs.Statements.{text_of_stm}
+use Rattle.kat_print.specs.Assertions.{text_of_assertion}
+use Rattle.kat_print.specs.Declarations.{text_of_phase, text_of_when, text_holding, text_of_decl, text_of_spec}
 use Rattle.kat_print.proofs.Forms.{of_word, of_number, of_list, of_one, of_two, of_more, of_all, both, three, named, words, numbers}
-use Rattle.kat_print.proofs.ExprText.{of_expr}
-use Rattle.kat_print.proofs.StmText.{of_stm, of_stms}
-use Rattle.kat_print.proofs.AssertionText.{of_type, of_params, of_assertion}
+use Rattle.kat_print.proofs.ExpressionTexts.{of_expr}
+use Rattle.kat_print.proofs.StatementTexts.{of_stm, of_stms}
+use Rattle.kat_print.proofs.TypeTexts.{of_type, of_params}
+use Rattle.kat_print.proofs.AssertionTexts.{of_assertion}
 
 pub of_phase : (phase : Phase) → text_of_tree (tree_of_phase phase) ≡ text_of_phase phase
 of_phase p.Untrusted = of_word (codes "untrusted")
@@ -126,3 +132,9 @@ pub spec_is : (spec : Spec) → text_of_spec spec ≡ text_of_tree (tree_of_spec
 spec_is spec =
     of_more (codes "spec") (number spec.version) (map tree_of_decl spec.decls) (decimal spec.version) (map text_of_decl spec.decls)
     (of_number spec.version) (of_decls spec.decls)
+
+-- the text of a version and declarations is that of the specification which has them
+pub spec_text : (spec : Spec) (version : ℕ) (decls : List DeclForm) → version ≡ spec.version → decls ≡ spec.decls →
+    text_of_spec (record { version = version; decls = decls }) ≡ text_of_tree (tree_of_spec spec)
+spec_text spec version decls first second =
+    ap₂ (λ (v : ℕ) (ds : List DeclForm). text_of_spec (record { version = v; decls = ds })) first second ∙ spec_is spec
