@@ -17,10 +17,10 @@ use Rattle.kat_top.proofs.Steps.{stops, done}
 use Rattle.kat_top.proofs.Written.{gives_nothing}
 
 pub print_done : (name : Name) → is_reserved name ≡ false → done_of (Some (Print name)) ≡ Some (Print name)
-print_done name no = rw no refl
+print_done name fails = rw fails refl
 
 pub print_reserved : (name : Name) → is_reserved name ≡ true → done_of (Some (Print name)) ≡ None
-print_reserved name yes = rw yes refl
+print_reserved name holds = rw holds refl
 
 pub run_done : (spec image : Name) (cycles calls : ℕ) (devices : List ℕ) → length devices ≡ 0 → not (list_any is_reserved (spec ∷ image ∷ [])) ≡ true →
     done_of (Some (Run spec image cycles calls devices)) ≡ Some (Run spec image cycles calls devices)
@@ -41,8 +41,8 @@ pub as_usage : (job : Option Job) (seen : FilesSeen) (given : Status) (old new :
 as_usage job seen given old new is gives = subst (λ j. Answered j seen seen given old new) (sym is) (done _ refl gives)
 
 by_test : (P : Type 0) (b : Bool) → (b ≡ true → P) → (b ≡ false → P) → P
-by_test P true yes no = yes refl
-by_test P false yes no = no refl
+by_test P true holds fails = holds refl
+by_test P false holds fails = fails refl
 
 -- memory ran out before the first input was asked for
 stops_at_once : (job : Option Job) (input : Input) (rest : List Input) (seen : FilesSeen) (sink : SinkSeen) → AnsweredFrom job [] (input ∷ rest) seen seen status.Memory sink sink
@@ -55,14 +55,14 @@ no_memory None seen sink = done _ refl (gives_nothing _ sink)
 no_memory (Some (Check file)) seen sink = done _ refl (gives_nothing _ sink)
 no_memory (Some (Print name)) seen sink =
     by_test (Answered (done_of (Some (Print name))) seen seen status.Memory sink sink) (is_reserved name)
-    (λ yes. as_usage (done_of (Some (Print name))) seen status.Memory sink sink (print_reserved name yes) (gives_nothing _ sink))
-    (λ no. subst (λ j. Answered j seen seen status.Memory sink sink) (sym (print_done name no)) (stops_at_once (Some (Print name)) _ _ seen sink))
+    (λ holds. as_usage (done_of (Some (Print name))) seen status.Memory sink sink (print_reserved name holds) (gives_nothing _ sink))
+    (λ fails. subst (λ j. Answered j seen seen status.Memory sink sink) (sym (print_done name fails)) (stops_at_once (Some (Print name)) _ _ seen sink))
 no_memory (Some (Verify file)) seen sink = done _ refl (gives_nothing _ sink)
 no_memory (Some (Replay file report)) seen sink = done _ refl (gives_nothing _ sink)
 no_memory (Some (Run spec image cycles calls [])) seen sink =
     let job : Job = Run spec image cycles calls [] in
     by_test (Answered (done_of (Some job)) seen seen status.Memory sink sink) (not (list_any is_reserved (spec ∷ image ∷ [])))
-    (λ yes. subst (λ j. Answered j seen seen status.Memory sink sink) (sym (run_done spec image cycles calls [] refl yes)) (stops_at_once (Some job) _ _ seen sink))
-    (λ no. as_usage (done_of (Some job)) seen status.Memory sink sink (run_reserved spec image cycles calls [] no) (gives_nothing _ sink))
+    (λ holds. subst (λ j. Answered j seen seen status.Memory sink sink) (sym (run_done spec image cycles calls [] refl holds)) (stops_at_once (Some job) _ _ seen sink))
+    (λ fails. as_usage (done_of (Some job)) seen status.Memory sink sink (run_reserved spec image cycles calls [] fails) (gives_nothing _ sink))
 no_memory (Some (Run spec image cycles calls (device ∷ devices))) seen sink = done _ refl (gives_nothing _ sink)
 no_memory (Some (Gen number)) seen sink = done _ refl (gives_nothing _ sink)

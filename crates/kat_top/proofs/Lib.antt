@@ -5,6 +5,7 @@ pub mod Doing
 pub mod Following
 pub mod Judged
 pub mod Loaded
+pub mod Machines
 pub mod Outside
 pub mod Owed
 pub mod Rows

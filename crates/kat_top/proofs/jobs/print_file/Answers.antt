@@ -1,9 +1,9 @@
 use Rattle.std.proofs.Common.{[], refl}
-use Rattle.kat_top.proofs.Steps.{goes_on, stops, done}
+use Rattle.kat_top.proofs.Steps.{named, goes_on, stops, done}
 use Rattle.kat_top.proofs.jobs.print_file.Goals as goal
 
 pub returns-in-Ok : goal.returns-in-Ok
-returns-in-Ok g c = goes_on (c.in-Ok.ensures []) (done _ (_, refl, refl) c.say_canonical.ensures)
+returns-in-Ok g c = goes_on (named c.as_str.ensures (c.in-Ok.ensures [])) (done _ (_, refl, refl) c.say_canonical.ensures)
 
 pub returns-in-Err : goal.returns-in-Err
-returns-in-Err g c = stops (c.in-Err.ensures []) c.refuse.ensures
+returns-in-Err g c = stops (named c.as_str.ensures (c.in-Err.ensures [])) c.refuse.ensures
