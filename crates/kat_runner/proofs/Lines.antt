@@ -4,37 +4,47 @@ use Rattle.std.proofs.lemmas.List.{drop_all}
 use Rattle.kat_value.specs.declared.value.Value.{Value}
 use Rattle.kat_value.specs.Equality.{value_eq}
 use Rattle.kat_syntax.specs.Tables.{Name}
-use Rattle.kat_syntax.specs.StateText.{hex_digit, hex_digits, register_line, all_lines, changed_lines}
+use Rattle.kat_text.specs.Hexadecimal.{hex_digit, hex_digits}
+use Rattle.kat_syntax.specs.StateText.{register_line, all_lines, changed_lines}
 
 -- the last digit of a number that has one
-pub hex_digits-last : (count n : ℕ) → 0 < count → hex_digits count n ≡ hex_digits (count - 1) (n / 16) ++ hex_digit (n % 16) ∷ []
-hex_digits-last count n some = let e : count ≡ suc (count - 1) = omega arith in ap (λ k. hex_digits k n) e
+pub hex_digits-last : (count n : ℕ) → 0 < count →
+    hex_digits count n ≡ hex_digits (count - 1) (n / 16) ++ hex_digit (n % 16) ∷ []
+hex_digits-last count n some =
+    let e : count ≡ suc (count - 1) = omega arith in ap (λ k. hex_digits k n) e
 
 all_lines-no_values : (names : List Name) → all_lines names [] ≡ []
 all_lines-no_values [] = refl
 all_lines-no_values (name ∷ names) = refl
 
 -- no line is left where the names or the values have ended
-pub all_lines-end : (n : ℕ) (names : List Name) (values : List Value) → min (length names) (length values) ≤ n →
+pub all_lines-end : (n : ℕ) (names : List Name) (values : List Value) →
+    min (length names) (length values) ≤ n →
     all_lines (drop n names) (drop n values) ≡ []
 all_lines-end n [] values h = ap (λ ns. all_lines ns (drop n values)) (drop_all n [] (omega arith))
-all_lines-end n (name ∷ names) [] h = ap (all_lines (drop n (name ∷ names))) (drop_all n [] (omega arith)) ∙ all_lines-no_values (drop n (name ∷ names))
+all_lines-end n (name ∷ names) [] h =
+    ap (all_lines (drop n (name ∷ names))) (drop_all n [] (omega arith))
+    ∙ all_lines-no_values (drop n (name ∷ names))
 all_lines-end zero (name ∷ names) (value ∷ values) h = absurd (omega arith)
 all_lines-end (suc n) (name ∷ names) (value ∷ values) h = all_lines-end n names values (omega arith)
 
-changed_lines-no_before : (names : List Name) (after : List Value) → changed_lines names [] after ≡ []
+changed_lines-no_before : (names : List Name) (after : List Value) →
+    changed_lines names [] after ≡ []
 changed_lines-no_before [] after = refl
 changed_lines-no_before (name ∷ names) after = refl
 
-changed_lines-no_after : (names : List Name) (before : List Value) → changed_lines names before [] ≡ []
+changed_lines-no_after : (names : List Name) (before : List Value) →
+    changed_lines names before [] ≡ []
 changed_lines-no_after [] before = refl
 changed_lines-no_after (name ∷ names) [] = refl
 changed_lines-no_after (name ∷ names) (old ∷ before) = refl
 
 -- no line is left where the names, the values before or the values after have ended
-pub changed_lines-end : (n : ℕ) (names : List Name) (before after : List Value) → min (min (length names) (length before)) (length after) ≤ n →
+pub changed_lines-end : (n : ℕ) (names : List Name) (before after : List Value) →
+    min (min (length names) (length before)) (length after) ≤ n →
     changed_lines (drop n names) (drop n before) (drop n after) ≡ []
-changed_lines-end n [] before after h = ap (λ ns. changed_lines ns (drop n before) (drop n after)) (drop_all n [] (omega arith))
+changed_lines-end n [] before after h =
+    ap (λ ns. changed_lines ns (drop n before) (drop n after)) (drop_all n [] (omega arith))
 changed_lines-end n (name ∷ names) [] after h =
     ap (λ vs. changed_lines (drop n (name ∷ names)) vs (drop n after)) (drop_all n [] (omega arith))
     ∙ changed_lines-no_before (drop n (name ∷ names)) (drop n after)
@@ -42,7 +52,8 @@ changed_lines-end n (name ∷ names) (old ∷ before) [] h =
     ap (changed_lines (drop n (name ∷ names)) (drop n (old ∷ before))) (drop_all n [] (omega arith))
     ∙ changed_lines-no_after (drop n (name ∷ names)) (drop n (old ∷ before))
 changed_lines-end zero (name ∷ names) (old ∷ before) (new ∷ after) h = absurd (omega arith)
-changed_lines-end (suc n) (name ∷ names) (old ∷ before) (new ∷ after) h = changed_lines-end n names before after (omega arith)
+changed_lines-end (suc n) (name ∷ names) (old ∷ before) (new ∷ after) h =
+    changed_lines-end n names before after (omega arith)
 
 module _ {T : Type 0} (xs : List T) (i : ℕ) (x : T) where
   front_of_drop : i < length xs → x ≡ get_or xs i x → drop i xs ≡ x ∷ drop (i + 1) xs
@@ -50,8 +61,10 @@ module _ {T : Type 0} (xs : List T) (i : ℕ) (x : T) where
 
 -- the line of the register at i, and the lines behind it
 pub all_lines-at : (names : List Name) (values : List Value) (i : ℕ) (name : Name) (value : Value) →
-    i < length names → i < length values → name ≡ get_or names i name → value ≡ get_or values i value →
-    all_lines (drop i names) (drop i values) ≡ register_line name value ++ all_lines (drop (i + 1) names) (drop (i + 1) values)
+    i < length names → i < length values → name ≡ get_or names i name →
+    value ≡ get_or values i value →
+    all_lines (drop i names) (drop i values)
+    ≡ register_line name value ++ all_lines (drop (i + 1) names) (drop (i + 1) values)
 all_lines-at names values i name value n v name_is value_is =
     ap (λ ns. all_lines ns (drop i values)) (front_of_drop names i name n name_is)
     ∙ ap (all_lines (name ∷ drop (i + 1) names)) (front_of_drop values i value v value_is)

@@ -1,6 +1,7 @@
-//! The run of a machine: each cycle in turn, and the text of its states written as it goes. What is written is exactly
-//! the text of the boundaries of the run that the meaning has, and the end is that run's; the lines of a run that ran out
-//! of calls or failed are made here and written by the caller.
+//! The run of a machine: each cycle in turn, and the text of its states written as it goes. What is
+//! written is exactly the text of the boundaries of the run that the meaning has, and the end is
+//! that run's; the lines of a run that ran out of calls or failed are made here and written by the
+//! caller.
 #![tactic(auto)]
 
 mod runner;

@@ -4,7 +4,8 @@ ghost use Rattle.std.specs.Prelude.{◌≡◌, ◌++◌, ◌<◌, [], OnOk, if�
 ghost use Rattle.kat_value.specs.Equality.{value_eq};
 ghost use Rattle.std.specs.Fmt.{decimal};
 ghost use Rattle.kat_syntax.specs.Run.{Ended, OutIn, FailedIn};
-ghost use Rattle.kat_syntax.specs.StateText.{hex_digit, hex_digits, text_of_value, register_line, all_lines, changed_lines, boundary_piece, end_piece};
+ghost use Rattle.kat_text.specs.Hexadecimal.{hex_digit, hex_digits};
+ghost use Rattle.kat_syntax.specs.StateText.{text_of_value, register_line, all_lines, changed_lines, boundary_piece, end_piece};
 
 use kat_syntax::Place;
 use kat_text::Text;

@@ -1,4 +1,4 @@
-use Rattle.std.proofs.Common.{◌≡◌, ◌≤◌, ◌-◌}
+use Rattle.std.proofs.Common.{◌≡◌, ◌-◌}
 use Rattle.kat_runner.proofs.Runs.{OwesAt}
 use Rattle.kat_runner.proofs.runner.run_cycles.Given as goal
 
@@ -6,6 +6,5 @@ use Rattle.kat_runner.proofs.runner.run_cycles.Given as goal
 abbrev pub invariant-loop-done : goal.invariant-loop-done
 invariant-loop-done g l = record {
   shown : l.printer.shown ≡ l.state.registers;
-  faults : g.K.Sink.faults l.fn.sink ≤ g.K.Sink.faults l.sink;
-  owes : OwesAt l.machine l.calls l.fn.state l.cycles (g.K.Sink.contents l.fn.sink) (g.K.Sink.contents l.sink) l.done l.state (l.cycles - l.done);
+  owes : OwesAt l.machine l.calls l.fn.state l.cycles (g.K.Sink.seen l.fn.sink) (g.K.Sink.seen l.sink) l.done l.state (l.cycles - l.done);
 }
