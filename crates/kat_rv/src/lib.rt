@@ -1,6 +1,6 @@
 //! Instructions of the RV32I base, of its CSRs and of the machine level, and the words that encode
-//! them. The table of encodings is a definition on words, by quotients and remainders; the calls are
-//! proved to follow it, and to be inverse to each other.
+//! them. The table of encodings is a definition on words, by quotients and remainders; the calls
+//! are proved to follow it, and to be inverse to each other.
 #![tactic(auto)]
 
 mod decode;
