@@ -37,9 +37,7 @@ impl Model for Checked {
 
     ghost Value = { Spec };
 
-    ghost coded = {
-        Prim.hlevel (codes, expr.the_row.coded, stm.the_row.coded, assertion.the_row.coded)
-    };
+    ghost coded = { Prim.hlevel (codes, expr.the_row.coded, stm.the_row.coded, assertion.the_row.coded) };
 
     ghost use Rattle.kat_syntax.specs.Checked.{HasTables};
 
