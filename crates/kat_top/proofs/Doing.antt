@@ -20,11 +20,12 @@ one_doing (Some (Print name)) taken a b (s, f, x) (t, g, y) =
     x ∙ ap print_answer e ∙ sym y
 one_doing (Some (Verify file)) taken a b x y = absurd x
 one_doing (Some (Replay file report)) taken a b x y = absurd x
-one_doing (Some (Run name image cycles calls devices)) taken a b (m, s, f, x) (n, t, g, y) =
+one_doing (Some (Run name image cycles calls [])) taken a b (m, s, f, x) (n, t, g, y) =
     let e : m ≡ n = cc in
     let d : s ≡ t = cc in
     x ∙ ap (λ (machine : Spec). answer_of_run machine s cycles calls) e
     ∙ ap (λ (start : MachineState). answer_of_run n start cycles calls) d ∙ sym y
+one_doing (Some (Run name image cycles calls (device ∷ devices))) taken a b x y = absurd x
 one_doing (Some (Gen number)) taken a b x y = absurd x
 
 -- the statuses of what jobs do
@@ -50,8 +51,9 @@ does_status (Some (Check file)) taken answer x = absurd x
 does_status (Some (Print name)) taken answer (s, f, x) = subst IsOfJob (sym (ap (λ (a : Answer). a.status) x)) tt
 does_status (Some (Verify file)) taken answer x = absurd x
 does_status (Some (Replay file report)) taken answer x = absurd x
-does_status (Some (Run name image cycles calls devices)) taken answer (m, s, f, x) =
+does_status (Some (Run name image cycles calls [])) taken answer (m, s, f, x) =
     subst IsOfJob (sym (ap (λ (a : Answer). a.status) x)) (end_is_of_job _)
+does_status (Some (Run name image cycles calls (device ∷ devices))) taken answer x = absurd x
 does_status (Some (Gen number)) taken answer x = absurd x
 
 -- the statuses of files, and of want of memory

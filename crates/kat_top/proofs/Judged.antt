@@ -10,7 +10,7 @@ use Rattle.kat_ast.specs.Spec.{Spec}
 use Rattle.kat_ast.specs.Specifications.{Reads}
 use Rattle.kat_syntax.specs.Machine.{MachineState}
 use Rattle.kat_syntax.specs.Runnable.{IsRunnable}
-use Rattle.kat_forms.specs.declared.misfit.Misfit.{Misfit}
+use Rattle.kat_shapes.specs.declared.misfit.Misfit.{Misfit}
 use Rattle.kat_forms.specs.Reading.{IsFirstMisfit}
 use Rattle.kat_image.specs.Image.{IsImageOf}
 use Rattle.kat_top.specs.declared.fault.Fault.{Fault}

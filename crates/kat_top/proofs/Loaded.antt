@@ -11,9 +11,9 @@ use Rattle.kat_top.specs.Loading.{LoadsBytes, ComesOf, Loads}
 pub loaded : (earlier : List Thing) (kind : Kind) (name : Name) (bytes : List ℕ) (outcome : Result Thing InputError) (before after : FilesSeen) →
     LoadsBytes name (Ok bytes) before after → ComesOf earlier kind bytes outcome → Loads earlier (input kind name) outcome before after
 loaded earlier kind name bytes (Ok thing) before after loads comes =
-    record { kept = loads.kept; noted = loads.noted; came = record { bytes = bytes; were_read = loads.came; reads = comes } }
+    record { kept = loads.kept; noted = loads.noted; came = record { bytes = bytes; uncounted = loads.came.uncounted; were_read = loads.came.were_read; reads = comes } }
 loaded earlier kind name bytes (Err (why.Fault said)) before after loads comes =
-    record { kept = loads.kept; noted = loads.noted; came = inr (inr (record { bytes = bytes; were_read = loads.came; refuses = comes })) }
+    record { kept = loads.kept; noted = loads.noted; came = inr (inr (record { bytes = bytes; uncounted = loads.came.uncounted; were_read = loads.came.were_read; refuses = comes })) }
 loaded earlier kind name bytes (Err why.Memory) before after loads comes = record { kept = loads.kept; noted = inr loads.noted; came = tt }
 
 -- the bytes were not had

@@ -60,7 +60,7 @@ abbrev pub Does : Option Job → List Thing → Answer → Type 0
 Does None taken answer = answer ≡ answer_of_fault fault.Usage
 Does (Some (Print name)) taken answer =
     (spec : Spec) × (taken ≡ TheSpec spec ∷ []) × (answer ≡ print_answer spec)
-Does (Some (Run name image cycles calls devices)) taken answer =
+Does (Some (Run name image cycles calls [])) taken answer =
     (machine : Spec) × (start : MachineState) × (taken ≡ TheMachine machine ∷ TheState start ∷ [])
     × (answer ≡ answer_of_run machine start cycles calls)
 Does _ taken answer = ⊥

@@ -36,7 +36,7 @@ pub record IsTooLong (told : Told) (input : Input) : Type 0 where
   pub is_told : told input.name ≡ Some bytes
   pub many : most_bytes < length bytes
 
--- THE ONE RECURSION. The judging comes to a point where P holds of what the inputs before it were
+-- The one recursion over inputs. The judging comes to a point where P holds of what the inputs before it were
 -- taken as and of those that are left: each input before it is taken as something, and P holds
 -- there
 abbrev pub Reaches : Told → (List Thing → List Input → Type 0) → List Thing → List Input → Type 0

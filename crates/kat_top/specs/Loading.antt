@@ -24,6 +24,11 @@ pub record WereRead (told : Option (List ℕ)) (bytes : List ℕ) : Type 0 where
   pub few : length bytes ≤ most_bytes
   pub as_told : IfSome told (λ t. bytes ≡ t)
 
+-- no fault of reading was counted
+pub record IsUncounted (before after : FilesSeen) : Type 0 where
+  pub faults : after.faults ≡ before.faults
+  pub overlong : after.overlong ≡ before.overlong
+
 -- the read of a file failed
 pub record FailedToRead (name : Name) (said : Fault) (before after : FilesSeen) : Type 0 where
   pub said_is : said ≡ fault.Read name
@@ -35,26 +40,30 @@ pub record WasTooLong (name : Name) (said : Fault) (before after : FilesSeen) : 
   pub rose : Rose before.overlong after.overlong
   pub many : IfSome (before.told name) (λ bytes. most_bytes < length bytes)
 
--- bytes were read, and refused with this fault
-pub record WereRefused (earlier : List Thing) (input : Input) (said : Fault) (before : FilesSeen) :
+-- bytes were read, which no count shows as a fault, and refused with this fault
+pub record WereRefused
+    (earlier : List Thing) (input : Input) (said : Fault) (before after : FilesSeen) :
     Type 0 where
   pub bytes : List ℕ
+  pub uncounted : IsUncounted before after
   pub were_read : WereRead (before.told input.name) bytes
   pub refuses : IsRefusedAs earlier input.kind bytes said
 
--- bytes were read as this
-pub record WereTaken (earlier : List Thing) (input : Input) (thing : Thing) (before : FilesSeen) :
+-- bytes were read, which no count shows as a fault, and read as this
+pub record WereTaken
+    (earlier : List Thing) (input : Input) (thing : Thing) (before after : FilesSeen) :
     Type 0 where
   pub bytes : List ℕ
+  pub uncounted : IsUncounted before after
   pub were_read : WereRead (before.told input.name) bytes
   pub reads : IsReadAs earlier input.kind bytes thing
 
 -- what came of an input: what its bytes were read as; a fault; or memory ran out
 abbrev pub Came : List Thing → Input → Result Thing InputError → FilesSeen → FilesSeen → Type 0
-Came earlier input (Ok thing) before after = WereTaken earlier input thing before
+Came earlier input (Ok thing) before after = WereTaken earlier input thing before after
 Came earlier input (Err (why.Fault said)) before after =
     FailedToRead input.name said before after
-    ⊎ (WasTooLong input.name said before after ⊎ WereRefused earlier input said before)
+    ⊎ (WasTooLong input.name said before after ⊎ WereRefused earlier input said before after)
 Came earlier input (Err why.Memory) before after = Unit {0}
 
 -- the read was noted; where memory ran out it may not have been
@@ -72,9 +81,9 @@ pub record Loads
   pub came : Came earlier input outcome before after
 
 -- what came of an input, as a thing
-abbrev pub outcome_of : {A : Type 0} → (A → Thing) → Result A InputError → Result Thing InputError
-outcome_of thing (Ok a) = Ok (thing a)
-outcome_of thing (Err error) = Err error
+abbrev pub as_thing : {A : Type 0} → (A → Thing) → Result A InputError → Result Thing InputError
+as_thing thing (Ok a) = Ok (thing a)
+as_thing thing (Err error) = Err error
 
 -- why the bytes of a file were not had
 abbrev pub IsUnread : Name → InputError → FilesSeen → FilesSeen → Type 0
@@ -82,9 +91,15 @@ IsUnread name (why.Fault said) before after =
     FailedToRead name said before after ⊎ WasTooLong name said before after
 IsUnread name why.Memory before after = Unit {0}
 
+-- the bytes of a file were had, and no fault was counted
+pub record WereHad (told : Option (List ℕ)) (bytes : List ℕ) (before after : FilesSeen) :
+    Type 0 where
+  pub were_read : WereRead told bytes
+  pub uncounted : IsUncounted before after
+
 -- what came of the bytes of a file
 abbrev pub HasBytes : Name → Result (List ℕ) InputError → FilesSeen → FilesSeen → Type 0
-HasBytes name (Ok bytes) before after = WereRead (before.told name) bytes
+HasBytes name (Ok bytes) before after = WereHad (before.told name) bytes before after
 HasBytes name (Err error) before after = IsUnread name error before after
 
 -- the bytes of a file were asked for, by one read, and this came of it

@@ -5,7 +5,7 @@ ghost use Rattle.std.specs.Prelude.{◌≡◌, ◌≤◌, ◌+◌, length, List,
 ghost use Rattle.kat_top.specs.declared.fault.Fault.TheVariants as fault;
 ghost use Rattle.kat_top.specs.Inputs.{most_bytes, Thing, ASpec, AMachine, AnImage, TheSpec, TheMachine, TheState, machine_of};
 ghost use Rattle.kat_top.specs.Jobs.{input};
-ghost use Rattle.kat_top.specs.Loading.{IsFaultOrMemory, ComesOf, Loads, LoadsBytes, error_of_form, error_of_tree, items_of, outcome_of};
+ghost use Rattle.kat_top.specs.Loading.{IsFaultOrMemory, ComesOf, Loads, LoadsBytes, error_of_form, error_of_tree, items_of, as_thing};
 
 use crate::fault::{Fault, TreeKind};
 use kat_forms::{FormError, read_spec};
@@ -33,7 +33,7 @@ pub enum InputError {
 /// The specification that a file stands for.
 pub fn load_spec<F: Files>(alloc: Global, files: &mut F, name: &str) -> Result<Spec, InputError>
     ensures { (earlier : List Thing) →
-        Loads earlier (input ASpec name.now) (outcome_of TheSpec result)
+        Loads earlier (input ASpec name.now) (as_thing TheSpec result)
         (F.seen files.old) (F.seen files.new) }
 {
     match load(alloc, files, name) {
@@ -49,7 +49,7 @@ pub fn load_machine<F: Files>(
     name: &str,
 ) -> Result<Checked, InputError>
     ensures { (earlier : List Thing) →
-        Loads earlier (input AMachine name.now) (outcome_of TheMachine result)
+        Loads earlier (input AMachine name.now) (as_thing TheMachine result)
         (F.seen files.old) (F.seen files.new) }
 {
     match load(alloc, files, name) {
@@ -66,7 +66,7 @@ pub fn load_image<F: Files>(
     machine: &Checked,
 ) -> Result<State, InputError>
     ensures { (earlier : List Thing) → machine_of earlier ≡ Some machine.now →
-        Loads earlier (input AnImage name.now) (outcome_of TheState result)
+        Loads earlier (input AnImage name.now) (as_thing TheState result)
         (F.seen files.old) (F.seen files.new) }
 {
     match load(alloc, files, name) {
@@ -111,7 +111,7 @@ fn long_fault(alloc: Global, name: &str, taken: u64) -> InputError
 /// What a text is read as that is to be a specification.
 fn spec_of(alloc: Global, text: &[u8]) -> Result<Spec, InputError>
     requires { length text.now ≤ most_bytes }
-    ensures { (earlier : List Thing) → ComesOf earlier ASpec text.now (outcome_of TheSpec result) }
+    ensures { (earlier : List Thing) → ComesOf earlier ASpec text.now (as_thing TheSpec result) }
 {
     match read_tree(alloc, text) {
         Ok(tree) => {
@@ -131,7 +131,7 @@ fn spec_of(alloc: Global, text: &[u8]) -> Result<Spec, InputError>
 fn machine_of(alloc: Global, text: &[u8]) -> Result<Checked, InputError>
     requires { length text.now ≤ most_bytes }
     ensures { (earlier : List Thing) →
-        ComesOf earlier AMachine text.now (outcome_of TheMachine result) }
+        ComesOf earlier AMachine text.now (as_thing TheMachine result) }
 {
     match spec_of(alloc, text) {
         Ok(spec) => match is_runnable(alloc, &spec) {
@@ -149,7 +149,7 @@ fn machine_of(alloc: Global, text: &[u8]) -> Result<Checked, InputError>
 /// What a text is read as that is to be an image of a machine.
 fn start_of(alloc: Global, text: &[u8], machine: &Checked) -> Result<State, InputError>
     ensures { (earlier : List Thing) → machine_of earlier ≡ Some machine.now →
-        ComesOf earlier AnImage text.now (outcome_of TheState result) }
+        ComesOf earlier AnImage text.now (as_thing TheState result) }
 {
     match read_image(alloc, text, machine) {
         Ok(state) => Ok(state),

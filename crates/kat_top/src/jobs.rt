@@ -1,6 +1,6 @@
 //! What each job does: it asks for its inputs in turn, and answers with what they were taken as.
 
-ghost use Rattle.std.specs.Prelude.{ℕ, List, Some};
+ghost use Rattle.std.specs.Prelude.{[], Some};
 ghost use Rattle.kat_words.specs.declared.asked.Job.TheVariants as job;
 ghost use Rattle.kat_top.specs.Answers.{Gives};
 ghost use Rattle.kat_top.specs.Given.{Answered};
@@ -44,7 +44,7 @@ pub fn run_files<F: Files, K: Sink>(
     files: &mut F,
     out: &mut K,
 ) -> Status
-    ensures { (devices : List ℕ) → Answered (Some (job.Run spec.now image.now cycles calls devices))
+    ensures { Answered (Some (job.Run spec.now image.now cycles calls []))
         (F.seen files.old) (F.seen files.new) result (K.seen out.old) (K.seen out.new) }
 {
     match load_machine(alloc, files, spec.as_str()) {

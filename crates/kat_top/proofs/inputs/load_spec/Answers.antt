@@ -1,13 +1,13 @@
 use Rattle.std.proofs.Common.{subst}
 use Rattle.kat_top.specs.Inputs.{ASpec, TheSpec}
-use Rattle.kat_top.specs.Loading.{ComesOf, outcome_of}
+use Rattle.kat_top.specs.Loading.{ComesOf, as_thing}
 use Rattle.kat_top.proofs.Loaded.{loaded, not_loaded}
 use Rattle.kat_top.proofs.inputs.load_spec.Goals as goal
 
 pub returns-in-Ok : goal.returns-in-Ok
 returns-in-Ok g c = λ earlier.
-    loaded earlier ASpec c.args.name.now c.in-Ok.bytes.items (outcome_of TheSpec c.spec_of.result) _ _ c.in-Ok.ensures
-    (subst (λ b. ComesOf earlier ASpec b (outcome_of TheSpec c.spec_of.result)) c.as_slice.ensures.value (c.spec_of.ensures earlier))
+    loaded earlier ASpec c.args.name.now c.in-Ok.bytes.items (as_thing TheSpec c.spec_of.result) _ _ c.in-Ok.ensures
+    (subst (λ b. ComesOf earlier ASpec b (as_thing TheSpec c.spec_of.result)) c.as_slice.ensures.value (c.spec_of.ensures earlier))
 
 pub returns-in-Err : goal.returns-in-Err
 returns-in-Err g c = λ earlier. not_loaded earlier ASpec c.args.name.now c.in-Err.error _ _ c.in-Err.ensures
