@@ -10,7 +10,6 @@ use Rattle.kat_ast.specs.declared.assertion.Assertion.{Assertion}
 use Rattle.kat_ast.specs.declared.assertion.Assertion.TheOpen.{Assertion-F, Pure, Register, Cell, Star, If, Exists, Predicate, Region}
 use Rattle.kat_ast.specs.declared.assertion.Assertion.TheViews.{roll-Assertion}
 use Rattle.kat_ast.specs.declared.assertion.Assertion.TheFolds.{map-Assertion, fold-roll-Assertion, ind-Assertion}
-use Rattle.kat_ast.specs.declared.type_name.TypeName.TheVariants as t
 use Rattle.kat_ast.specs.Parts.{word, is_name, every}
 use Rattle.kat_ast.specs.Types.{tree_of_type, is_formed_type}
 use Rattle.kat_ast.specs.Expressions.{tree_of_expr, is_formed_expr, are_formed_exprs}

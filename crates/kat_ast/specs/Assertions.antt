@@ -1,5 +1,5 @@
 -- Assertions: the tree of each, what each owes beside its parts, and how many trees it has.
-use Rattle.std.specs.Prelude.{ℕ, ◌+◌, Bool, ◌&&◌, List, [], ◌∷◌, map, sum, codes}
+use Rattle.std.specs.Prelude.{ℕ, ◌+◌, Bool, ◌&&◌, [], ◌∷◌, map, sum, codes}
 use Rattle.kat_tree.specs.declared.tree.Tree.{Tree}
 use Rattle.kat_tree.specs.declared.tree.Tree.TheVariants as tree
 use Rattle.kat_ast.specs.declared.assertion.Assertion.{Assertion}

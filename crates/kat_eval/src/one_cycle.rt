@@ -56,7 +56,7 @@ pub fn cycle(alloc: Global, machine: &Checked, calls: u64, state: State) -> Cycl
 }
 
 /// The end of a cycle, from that of the step function's body, which is a tree of that function's
-// declaration.
+/// declaration.
 fn end_of_cycle(end: StmEnd, decl: u32, body_at: u32, running: Running) -> CycleEnd
     requires { IsBelow (2 ^ 32) body_at end }
     ensures { let outcome = as_outcome end (progress_of running) in

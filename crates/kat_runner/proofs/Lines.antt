@@ -4,14 +4,7 @@ use Rattle.std.proofs.lemmas.List.{drop_all}
 use Rattle.kat_value.specs.declared.value.Value.{Value}
 use Rattle.kat_value.specs.Equality.{value_eq}
 use Rattle.kat_syntax.specs.Tables.{Name}
-use Rattle.kat_text.specs.Hexadecimal.{hex_digit, hex_digits}
 use Rattle.kat_syntax.specs.StateText.{register_line, all_lines, changed_lines}
-
--- the last digit of a number that has one
-pub hex_digits-last : (count n : ℕ) → 0 < count →
-    hex_digits count n ≡ hex_digits (count - 1) (n / 16) ++ hex_digit (n % 16) ∷ []
-hex_digits-last count n some =
-    let e : count ≡ suc (count - 1) = omega arith in ap (λ k. hex_digits k n) e
 
 all_lines-no_values : (names : List Name) → all_lines names [] ≡ []
 all_lines-no_values [] = refl

@@ -10,7 +10,7 @@ use kat_eval::{CycleEnd, cycle};
 use kat_io::{Sink, SinkError, writes_join};
 use kat_state::State;
 use kat_syntax::{Checked, Place};
-use kat_text::Text;
+use kat_text::{Text, TextBuilder};
 use kat_value::{Value, Values, copy_value, copy_values, same_value};
 use std::alloc::{AllocError, Global};
 
@@ -91,7 +91,7 @@ fn run_cycles<K: Sink>(
 #[derive(Drop)]
 struct Printer {
     shown: Values,
-    text: Vec<u8>,
+    text: TextBuilder,
 }
 
 impl Printer {
@@ -109,9 +109,9 @@ impl Printer {
             IfErr result (λ error. GaveUp error piece (K.seen sink.old) (K.seen sink.new)) }
     {
         let shown = copy_values(alloc, values).map_err(|_| SinkError::Memory)?;
-        let mut text = Vec::new(alloc);
+        let mut text = TextBuilder::new(alloc);
         push_first_boundary(&mut text, names, values).map_err(|_| SinkError::Memory)?;
-        sink.write_all(text.as_slice())?;
+        sink.write_all(text.as_bytes())?;
         Ok(Printer { shown, text })
     }
 
@@ -133,7 +133,7 @@ impl Printer {
             |_| SinkError::Memory,
         )?;
         update_values(alloc, &mut self.shown, values).map_err(|_| SinkError::Memory)?;
-        sink.write_all(self.text.as_slice())
+        sink.write_all(self.text.as_bytes())
     }
 
     /// Writes the last piece of a run that ended.
@@ -142,7 +142,7 @@ impl Printer {
     {
         self.text.clear();
         push_ended(&mut self.text, last).map_err(|_| SinkError::Memory)?;
-        sink.write_all(self.text.as_slice())
+        sink.write_all(self.text.as_bytes())
     }
 }
 

@@ -74,7 +74,7 @@ impl Declared {
     }
 
     /// What one more declaration declares beside these names, or `None` where its name stands there
-    // already.
+    /// already.
     fn with(self, decl: &DeclForm) -> Result<Option<Declared>, AllocError>
         requires names { length self.names < 2 ^ 32 }
         requires registers { length self.registers < 2 ^ 32 }

@@ -5,5 +5,5 @@ use Rattle.kat_runner.proofs.text.push_all_lines.Given as goal
 -- the lines that are still to come make the text whole
 abbrev pub invariant-loop-at : goal.invariant-loop-at
 invariant-loop-at l =
-    l.out.items ++ all_lines (drop l.at l.names) (drop l.at l.values)
-    ≡ l.initial.out.items ++ all_lines l.names l.values
+    l.out ++ all_lines (drop l.at l.names) (drop l.at l.values)
+    ≡ l.initial.out ++ all_lines l.names l.values

@@ -1,0 +1,4 @@
+pub mod Splits
+pub mod Bits
+pub mod Decoded
+pub mod Encoded
