@@ -9,7 +9,7 @@ use Rattle.kat_tree.specs.Faults.{IsFirstFault}
 use Rattle.kat_ast.specs.Spec.{Spec}
 use Rattle.kat_ast.specs.Specifications.{Reads}
 use Rattle.kat_syntax.specs.Runnable.{IsRunnable}
-use Rattle.kat_forms.specs.declared.misfit.Misfit.{Misfit}
+use Rattle.kat_shapes.specs.declared.misfit.Misfit.{Misfit}
 use Rattle.kat_forms.specs.Reading.{IsFirstMisfit}
 use Rattle.kat_image.specs.Image.{IsImageOf}
 use Rattle.kat_top.specs.declared.fault.Fault.{Fault}

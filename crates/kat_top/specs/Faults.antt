@@ -2,8 +2,8 @@
 use Rattle.std.specs.Prelude.{ℕ, List, [], ◌∷◌, ◌++◌, codes}
 use Rattle.std.specs.Fmt.{decimal}
 use Rattle.kat_ast.specs.declared.place.Place.{Place}
-use Rattle.kat_ast.specs.declared.wanted.Wanted.{Wanted}
-use Rattle.kat_ast.specs.declared.wanted.Wanted.TheVariants as wanted
+use Rattle.kat_shapes.specs.declared.wanted.Wanted.{Wanted}
+use Rattle.kat_shapes.specs.declared.wanted.Wanted.TheVariants as wanted
 use Rattle.kat_top.specs.declared.fault.Fault.{Fault}
 use Rattle.kat_top.specs.declared.fault.Fault.TheVariants as fault
 use Rattle.kat_top.specs.declared.fault.TreeKind.{TreeKind}

@@ -6,7 +6,7 @@ use Rattle.kat_tree.specs.Faults.{Owes}
 use Rattle.kat_ast.specs.Spec.{Spec}
 use Rattle.kat_syntax.specs.Machine.{MachineState}
 use Rattle.kat_ast.specs.Specifications.{Describes, Reads}
-use Rattle.kat_forms.specs.declared.misfit.Misfit.{Misfit}
+use Rattle.kat_shapes.specs.declared.misfit.Misfit.{Misfit}
 use Rattle.kat_forms.specs.Reading.{IsFirstMisfit}
 use Rattle.kat_image.specs.Image.{IsImageOf}
 

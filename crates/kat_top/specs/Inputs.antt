@@ -6,7 +6,7 @@ use Rattle.kat_tree.specs.declared.tree.Tree.{Tree}
 use Rattle.kat_tree.specs.Spelling.{Spells}
 use Rattle.kat_tree.specs.Faults.{IsFirstFault}
 use Rattle.kat_ast.specs.Spec.{Spec}
-use Rattle.kat_ast.specs.declared.wanted.Wanted.{Wanted}
+use Rattle.kat_shapes.specs.declared.wanted.Wanted.{Wanted}
 use Rattle.kat_ast.specs.Specifications.{Reads}
 use Rattle.kat_syntax.specs.Machine.{MachineState}
 use Rattle.kat_syntax.specs.Runnable.{IsRunnable}
