@@ -1,14 +1,14 @@
 -- The reads are those of the names that are asked for.
-use Rattle.std.proofs.Common.{◌≡◌, ℕ, ◌⊎◌, inl, inr, List, [], ◌∷◌, ◌++◌, map, Option, Ok, Err, refl, ap, sym, subst, ◌∙◌, append_assoc}
+use Rattle.std.proofs.Common.{◌≡◌, ℕ, ◌⊎◌, inl, inr, List, [], ◌∷◌, ◌++◌, map, Option, Err, refl, ap, sym, subst, ◌∙◌, append_assoc}
 use Rattle.std.proofs.lemmas.List.{append-nil}
 use Rattle.kat_io.specs.Seen.{FilesSeen, SinkSeen}
 use Rattle.kat_words.specs.declared.asked.Job.{Job}
 use Rattle.kat_top.specs.declared.inputs.InputError.{InputError}
 use Rattle.kat_top.specs.declared.inputs.InputError.TheVariants as why
 use Rattle.kat_top.specs.declared.status.Status.{Status}
-use Rattle.kat_top.specs.Answers.{Answer, answer_of_error, out_of_memory, Gives}
+use Rattle.kat_top.specs.Answers.{Answer, answer_of_error}
 use Rattle.kat_top.specs.Causes.{IsFromOutside}
-use Rattle.kat_top.specs.Given.{StopsAt, AnswersFrom, Answered, ReadsMade}
+use Rattle.kat_top.specs.Given.{AnswersFrom, Answered, ReadsMade}
 use Rattle.kat_top.specs.Inputs.{Name, Input, Thing}
 use Rattle.kat_top.specs.Jobs.{inputs_of}
 use Rattle.kat_top.specs.Judging.{Told, AreTold, IsEnd, AreAsked, names_of, names_behind}

@@ -1,5 +1,5 @@
 -- The jobs that are done, and those that are answered as words that ask for none.
-use Rattle.std.proofs.Common.{◌≡◌, ℕ, ◌≤◌, inl, List, [], ◌∷◌, length, Bool, true, false, Option, None, Some, refl, sym, subst, arith}
+use Rattle.std.proofs.Common.{◌≡◌, ℕ, inl, List, [], ◌∷◌, length, Bool, true, false, Option, None, Some, refl, sym, subst, arith}
 use Rattle.std.specs.Prelude.{not}
 use Rattle.std.specs.List.{list_any}
 use Rattle.kat_io.specs.Seen.{FilesSeen, SinkSeen, Kept}
@@ -11,8 +11,8 @@ use Rattle.kat_top.specs.declared.status.Status.{Status}
 use Rattle.kat_top.specs.declared.status.Status.TheVariants as status
 use Rattle.kat_top.specs.Answers.{answer_of_fault, out_of_memory, Gives}
 use Rattle.kat_top.specs.Given.{Answered, AnsweredFrom}
-use Rattle.kat_top.specs.Inputs.{Name, Input, Thing}
-use Rattle.kat_top.specs.Jobs.{done_of, inputs_of, is_reserved}
+use Rattle.kat_top.specs.Inputs.{Name, Input}
+use Rattle.kat_top.specs.Jobs.{done_of, is_reserved}
 use Rattle.kat_top.proofs.Steps.{stops, done}
 use Rattle.kat_top.proofs.Written.{gives_nothing}
 

@@ -1,11 +1,10 @@
 -- A fault comes only where its count rose, what files tell stays, and the reads are those of the
 -- first inputs.
-use Rattle.std.proofs.Common.{◌≡◌, ℕ, suc, ◌≤◌, inl, inr, List, [], ◌∷◌, ◌++◌, map, take, Option, Ok, Err, refl, ap, sym, subst, ◌∙◌, append_assoc, arith}
+use Rattle.std.proofs.Common.{◌≡◌, ℕ, suc, inl, inr, List, [], ◌∷◌, ◌++◌, map, take, Option, Err, refl, ap, sym, subst, ◌∙◌, append_assoc, arith}
 use Rattle.std.proofs.lemmas.List.{append-nil}
 use Rattle.kat_io.specs.Counts.{Rose}
 use Rattle.kat_io.specs.Seen.{FilesSeen, SinkSeen, Kept}
 use Rattle.kat_words.specs.declared.asked.Job.{Job}
-use Rattle.kat_top.specs.declared.fault.Fault.{Fault}
 use Rattle.kat_top.specs.declared.inputs.InputError.{InputError}
 use Rattle.kat_top.specs.declared.inputs.InputError.TheVariants as why
 use Rattle.kat_top.specs.declared.status.Status.{Status}

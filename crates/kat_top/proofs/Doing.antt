@@ -1,5 +1,5 @@
 -- What a job does with its inputs is one answer, whose status is none of a file.
-use Rattle.std.proofs.Common.{◌≡◌, inl, inr, List, [], ◌∷◌, Option, None, Some, refl, ap, sym, subst, ◌∙◌}
+use Rattle.std.proofs.Common.{◌≡◌, List, Option, None, Some, refl, ap, sym, subst, ◌∙◌}
 use Rattle.kat_ast.specs.Spec.{Spec}
 use Rattle.kat_syntax.specs.Machine.{MachineState}
 use Rattle.kat_syntax.specs.Run.{RunEnd, Ended, OutIn, FailedIn}
@@ -8,7 +8,7 @@ use Rattle.kat_words.specs.declared.asked.Job.TheVariants.{Check, Print, Verify,
 use Rattle.kat_top.specs.declared.status.Status.{Status}
 use Rattle.kat_top.specs.declared.status.Status.TheVariants as status
 use Rattle.kat_top.specs.Answers.{Answer}
-use Rattle.kat_top.specs.Inputs.{Thing, TheSpec, TheMachine, TheState}
+use Rattle.kat_top.specs.Inputs.{Thing}
 use Rattle.kat_top.specs.Jobs.{Does, print_answer, answer_of_run, status_of_end}
 
 -- one answer

@@ -8,7 +8,6 @@ use Rattle.kat_tree.specs.Spelling.{Spells}
 use Rattle.kat_tree.specs.Faults.{IsFirstFault}
 use Rattle.kat_ast.specs.Spec.{Spec}
 use Rattle.kat_ast.specs.Specifications.{Reads}
-use Rattle.kat_syntax.specs.Machine.{MachineState}
 use Rattle.kat_syntax.specs.Runnable.{IsRunnable}
 use Rattle.kat_shapes.specs.declared.misfit.Misfit.{Misfit}
 use Rattle.kat_forms.specs.Reading.{IsFirstMisfit}
@@ -20,7 +19,7 @@ use Rattle.kat_top.specs.declared.fault.TreeKind.TheVariants.{NotText, Unclosed,
 use Rattle.kat_top.specs.declared.status.Status.TheVariants as status
 use Rattle.kat_top.specs.FileLaws.{FileLaws}
 use Rattle.kat_top.specs.Statuses.{status_of_fault}
-use Rattle.kat_top.specs.Inputs.{Kind, ASpec, AMachine, AnImage, Thing, TheSpec, TheMachine, TheState, machine_of, IsMachine, tree_error, IsNoTree, IsNoSpec, IsNotBuilt, IsNoImage, IsReadAs, IsRefusedAs}
+use Rattle.kat_top.specs.Inputs.{Kind, ASpec, AMachine, AnImage, Thing, TheSpec, TheMachine, TheState, machine_of, tree_error, IsNoTree, IsNoSpec, IsReadAs, IsRefusedAs}
 
 -- the fault of an error of a tree
 abbrev pub fault_of_error : TreeError → Fault

@@ -1,5 +1,5 @@
 -- What comes of a machine, from what comes of the specification.
-use Rattle.std.proofs.Common.{◌≡◌, ℕ, inl, inr, List, Ok, Err, refl, ap, sym, subst, ◌∙◌}
+use Rattle.std.proofs.Common.{◌≡◌, ℕ, inl, inr, List, Ok, Err, refl, ap, subst, ◌∙◌}
 use Rattle.kat_ast.specs.Spec.{Spec}
 use Rattle.kat_syntax.specs.Runnable.{IsRunnable}
 use Rattle.kat_top.specs.declared.fault.Fault.TheVariants as fault

@@ -5,7 +5,6 @@ use Rattle.std.specs.Prelude.{IsSome, IfSome}
 use Rattle.kat_io.specs.Counts.{Rose}
 use Rattle.kat_io.specs.Seen.{FilesSeen}
 use Rattle.kat_top.specs.declared.fault.Fault.{Fault}
-use Rattle.kat_top.specs.declared.fault.Fault.TheVariants as fault
 use Rattle.kat_top.specs.declared.inputs.InputError.{InputError}
 use Rattle.kat_top.specs.declared.inputs.InputError.TheVariants as why
 use Rattle.kat_top.specs.declared.status.Status.TheVariants as status
@@ -13,8 +12,8 @@ use Rattle.kat_top.specs.Answers.{Answer, answer_of_fault, answer_of_error, out_
 use Rattle.kat_top.specs.FileLaws.{FileLaws}
 use Rattle.kat_top.specs.Given.{StopsAt}
 use Rattle.kat_top.specs.Inputs.{Input, Thing, IsReadAs, IsRefusedAs, most_bytes}
-use Rattle.kat_top.specs.Judging.{Told, IsTakenAs, IsRefused, IsTooLong}
-use Rattle.kat_top.specs.Loading.{WereRead, WereTaken, Came, Loads}
+use Rattle.kat_top.specs.Judging.{Told, IsTakenAs, IsRefused}
+use Rattle.kat_top.specs.Loading.{WereRead, Came, Loads}
 use Rattle.kat_top.specs.Owed.{RefusedWith}
 use Rattle.kat_top.proofs.Judged.{one_thing, one_fault, not_both}
 

@@ -7,9 +7,8 @@ use Rattle.kat_io.specs.Seen.{FilesSeen, SinkSeen}
 use Rattle.kat_words.specs.declared.asked.Job.{Job}
 use Rattle.kat_top.specs.declared.status.Status.{Status}
 use Rattle.kat_top.specs.declared.status.Status.TheVariants as status
-use Rattle.kat_top.specs.Answers.{Answer, out_of_memory, IsWhole, IfPlain, IfWriteFault, Gives}
-use Rattle.kat_top.specs.Complete.{GivesOwed, IsComplete}
-use Rattle.kat_top.specs.Causes.{Tells}
+use Rattle.kat_top.specs.Answers.{Answer, out_of_memory, IsWhole, Gives}
+use Rattle.kat_top.specs.Complete.{IsComplete}
 use Rattle.kat_top.specs.FileLaws.{FileLaws}
 use Rattle.kat_top.specs.Given.{AnswersFrom, Answered}
 use Rattle.kat_top.specs.Inputs.{Input, Thing}
@@ -17,7 +16,7 @@ use Rattle.kat_top.specs.Jobs.{inputs_of}
 use Rattle.kat_top.specs.Judging.{Told}
 use Rattle.kat_top.specs.Owed.{RefusedWith, EndsWith, IsOwedFrom, IsOwed}
 use Rattle.kat_top.proofs.Doing.{one_doing}
-use Rattle.kat_top.proofs.Following.{Arrives, follows, owed_from}
+use Rattle.kat_top.proofs.Following.{follows, owed_from}
 use Rattle.kat_top.proofs.Outside.{IsOutside, outside_before, stop_is, taken_is, same_thing, not_refused, refused_once}
 
 pub one_from : FileLaws → (job : Option Job) (told : Told) (inputs : List Input) (earlier : List Thing) (a b : Answer) →

@@ -1,5 +1,5 @@
 -- Where each status comes.
-use Rattle.std.proofs.Common.{◌≡◌, ◌+◌, ◌⊎◌, inl, inr, List, [], ◌∷◌, ◌++◌, Option, None, Some, Ok, Err, refl, ap, sym, subst, ◌∙◌}
+use Rattle.std.proofs.Common.{◌≡◌, ◌+◌, ◌⊎◌, inl, inr, List, [], ◌∷◌, ◌++◌, Option, None, Some, Err, ap, sym, subst, ◌∙◌}
 use Rattle.kat_io.specs.Seen.{FilesSeen, SinkSeen}
 use Rattle.kat_words.specs.declared.asked.Job.{Job}
 use Rattle.kat_top.specs.declared.fault.Fault.{Fault}
@@ -8,18 +8,18 @@ use Rattle.kat_top.specs.declared.inputs.InputError.{InputError}
 use Rattle.kat_top.specs.declared.inputs.InputError.TheVariants as why
 use Rattle.kat_top.specs.declared.status.Status.{Status}
 use Rattle.kat_top.specs.declared.status.Status.TheVariants as status
-use Rattle.kat_top.specs.Answers.{Answer, answer_of_fault, answer_of_error, out_of_memory, IsWhole, Gives}
+use Rattle.kat_top.specs.Answers.{Answer, answer_of_fault, answer_of_error, IsWhole, Gives}
 use Rattle.kat_top.specs.Causes.{IsFromOutside, Tells, UsageComes, LongComes, FormComes, DoneComes, StatusesCome}
 use Rattle.kat_top.specs.FileLaws.{FileLaws}
 use Rattle.kat_top.specs.Given.{AnswersFrom, Answered}
 use Rattle.kat_top.specs.Inputs.{Name, Input, Thing, IsReadAs, most_bytes}
 use Rattle.kat_top.specs.Jobs.{Does, inputs_of}
-use Rattle.kat_top.specs.Judging.{Told, IsRefused, IsNothing, IsTooLong, Reaches, AtNext, AtEnd}
+use Rattle.kat_top.specs.Judging.{Told, IsNothing, IsTooLong, Reaches, AtNext, AtEnd}
 use Rattle.kat_top.specs.Loading.{Came}
 use Rattle.kat_top.specs.Owed.{EndsWith, IsOwed}
 use Rattle.kat_top.specs.Statuses.{status_of_fault}
-use Rattle.kat_top.proofs.Doing.{one_doing, HasStatus, does_status, IsOfFile, no_file, is_usage, IsOfJob}
-use Rattle.kat_top.proofs.Following.{reaches_map, Arrives, follows, owed_from}
+use Rattle.kat_top.proofs.Doing.{one_doing, HasStatus, does_status, no_file, is_usage, IsOfJob}
+use Rattle.kat_top.proofs.Following.{reaches_map, follows, owed_from}
 use Rattle.kat_top.proofs.Judged.{refused_status, not_both}
 use Rattle.kat_top.proofs.Outside.{IsOutside, outside_before, stop_is, taken_is, same_bytes, few_or_many}
 

@@ -1,5 +1,5 @@
 -- What writes make of an answer.
-use Rattle.std.proofs.Common.{◌≡◌, ℕ, ◌+◌, ◌-◌, ◌++◌, ◌≤◌, refl, ap, sym, subst, ◌∙◌, List, [], ◌∷◌, length, take, min, Option, None, Some, append_assoc, arith}
+use Rattle.std.proofs.Common.{◌≡◌, ℕ, ◌+◌, ◌-◌, ◌++◌, refl, ap, sym, subst, ◌∙◌, List, [], ◌∷◌, length, take, min, Option, None, Some, append_assoc, arith}
 use Rattle.std.specs.Fmt.{decimal}
 use Rattle.std.proofs.Math.Seq.{take-append-add, take-length}
 use Rattle.std.proofs.lemmas.List.{append-nil, take_min, take-append-le}
