@@ -1,0 +1,4 @@
+mod Layers
+mod Parts
+mod Positions
+mod Reading
