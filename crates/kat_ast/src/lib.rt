@@ -10,7 +10,6 @@ mod decl;
 mod expr;
 mod place;
 mod stm;
-mod wanted;
 mod written;
 
 pub use assertion::Assertion;
@@ -22,5 +21,4 @@ pub use expr::Expr;
 pub use kat_value::Op;
 pub use place::Place;
 pub use stm::{CaseArm, MatchArm, Stm};
-pub use wanted::Wanted;
 pub use written::{one_form, one_reading, places_are_of_the_tree, specifications_can_be_written};

@@ -1,7 +1,0 @@
-use Rattle.kat_ast.specs.Formed.{is_formed_when}
-use Rattle.kat_ast.specs.Written.{tree_of_when}
-use Rattle.kat_forms.proofs.Lists.{SoFar}
-use Rattle.kat_forms.proofs.declarations.whens_in.Given as goal
-
-abbrev pub invariant-loop-tree : goal.invariant-loop-tree
-invariant-loop-tree l = SoFar tree_of_when is_formed_when l.trees l.cases l.tree-index

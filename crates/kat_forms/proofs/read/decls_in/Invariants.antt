@@ -1,5 +1,0 @@
-use Rattle.kat_forms.proofs.Whole.{Made}
-use Rattle.kat_forms.proofs.read.decls_in.Given as goal
-
-abbrev pub invariant-loop-tree : goal.invariant-loop-tree
-invariant-loop-tree l = Made l.trees l.decls l.tree-index
