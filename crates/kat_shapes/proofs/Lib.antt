@@ -2,3 +2,6 @@ mod Layers
 mod Parts
 mod Positions
 mod Reading
+mod Misfits
+mod Judgements
+mod Later

@@ -99,7 +99,7 @@ inward v root text _ _ _ (part place i parts sort sorts one inner r formed here 
 list_same : (ps qs : List Tree) → tree.List ps ≡ tree.List qs → ps ≡ qs
 list_same ps qs e = let f : Tree-F.List ps ≡ Tree-F.List qs = sym (outs-List ps) ∙ ap out-Tree e ∙ outs-List qs in cc
 
-some_same : {A : Type 0} (x y : A) (found : Option A) → found ≡ Some x → found ≡ Some y → x ≡ y
+pub some_same : {A : Type 0} (x y : A) (found : Option A) → found ≡ Some x → found ≡ Some y → x ≡ y
 some_same x y found e f = cc
 
 -- of a list whose parts and sorts are known

@@ -9,12 +9,12 @@ use Rattle.kat_shapes.specs.declared.sort.Sort.TheVariants.{Spec}
 use Rattle.kat_shapes.specs.Forms.{is_version, newest}
 
 -- the version that a tree is, if it is one
-abbrev version_in : Tree-F Tree → ℕ
+abbrev pub version_in : Tree-F Tree → ℕ
 version_in (Tree-F.Atom (token.Number n)) = if is_version n then n else newest
 version_in _ = newest
 
 -- the version that stands behind the first word of a list
-abbrev stated_in : Tree-F Tree → ℕ
+abbrev pub stated_in : Tree-F Tree → ℕ
 stated_in (Tree-F.List (word ∷ version ∷ parts)) = version_in (out-Tree version)
 stated_in _ = newest
 
