@@ -10,7 +10,7 @@ use Rattle.std.proofs.lemmas.Str.Pattern.{NoCharPasses-char}
 use Rattle.kat_names.specs.Names.{position_of}
 use Rattle.kat_tree.specs.declared.tree.Token.TheVariants.{Number}
 use Rattle.std.specs.List.{AllByRecursion}
-use Rattle.kat_tree.specs.Spelling.{IsNumeral, StandsFor, value_behind}
+use Rattle.kat_tree.specs.Spelling.{IsNumeral, SpellsToken, value_behind}
 use Rattle.kat_value.specs.declared.value.Value.{Value}
 use Rattle.kat_value.specs.declared.value.Value.TheVariants.{Bits as BitsValue}
 use Rattle.kat_ast.specs.declared.decl.TypeName.{TypeName}
@@ -28,7 +28,7 @@ no_mark digits word n marked is =
     let digit : digit_value 120 < 10 = all.1.0 in
     absurd (omega arith)
 
-one_number : (word : List ℕ) (n m : ℕ) → StandsFor word (Number n) → StandsFor word (Number m) → n ≡ m
+one_number : (word : List ℕ) (n m : ℕ) → SpellsToken word (Number n) → SpellsToken word (Number m) → n ≡ m
 one_number word n m (inl a) (inl b) = a.value ∙ sym b.value
 one_number word n m (inl a) (inr b) = absurd (no_mark b.digits word n b.marked a)
 one_number word n m (inr a) (inl b) = absurd (no_mark a.digits word m a.marked b)
@@ -87,7 +87,7 @@ pub one_assignment : (names : List Name) (line : Line) (at n to m : ℕ) → Ass
 one_assignment names line at n to m a b =
     let parts = one_cut line a.name a.word b.name b.word a.words b.words in
     let some : ◌≡◌ {A = Option ℕ} (Some at) (Some to) = sym a.named ∙ ap (position_of names) parts.0 ∙ b.named in
-    (cc, one_number (chars b.word) n m (subst (λ word. StandsFor (chars word) (Number n)) parts.1 a.spelled) b.spelled)
+    (cc, one_number (chars b.word) n m (subst (λ word. SpellsToken (chars word) (Number n)) parts.1 a.spelled) b.spelled)
 
 -- and sets that register to one value
 pub one_setting : (spec : Spec) (line : Line) (at to : ℕ) (v w : Value) → Sets spec line at v → Sets spec line to w → (at ≡ to) × (v ≡ w)

@@ -4,7 +4,7 @@ use Rattle.std.specs.List.{All, Contains, slice_split}
 use Rattle.std.specs.Str.{IsUtf8, chars}
 use Rattle.kat_names.specs.Names.{position_of}
 use Rattle.kat_tree.specs.declared.tree.Token.TheVariants.{Number}
-use Rattle.kat_tree.specs.Spelling.{StandsFor}
+use Rattle.kat_tree.specs.Spelling.{SpellsToken}
 use Rattle.kat_value.specs.declared.value.Value.{Value}
 use Rattle.kat_value.specs.declared.value.Value.TheVariants.{Bits as BitsValue}
 use Rattle.kat_value.specs.Numbers.{IsNumber}
@@ -49,7 +49,7 @@ pub record Assigns (names : List Name) (line : Line) (at number : ℕ) : Type 0 
   pub word : List ℕ
   pub words : AreWords line name word
   pub named : position_of names name ≡ Some at
-  pub spelled : StandsFor (chars word) (Number number)
+  pub spelled : SpellsToken (chars word) (Number number)
 
 -- a line sets the register at this position to this value: the number fits the register's width
 pub record Sets (spec : Spec) (line : Line) (at : ℕ) (value : Value) : Type 0 where

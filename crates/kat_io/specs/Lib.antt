@@ -5,5 +5,7 @@ pub mod HostBytes
 pub mod HostSinks
 pub mod ReadErrors
 pub mod Reads
+pub mod Seen
 pub mod SinkErrors
 pub mod SinkInMemory
+pub mod WriteLaws

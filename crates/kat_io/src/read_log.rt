@@ -1,15 +1,14 @@
 //! What an implementation of `Files` keeps of its reads.
-ghost use Rattle.std.specs.Prelude.{◌≡◌, ◌≤◌, ◌+◌, length, [], ◌∷◌, ◌++◌, IfErr, OnOk, OnErr};
-ghost use Rattle.kat_io.specs.Counts.{Rose};
-ghost use Rattle.kat_io.specs.ReadErrors.{IfReadFailed, IfTooLong};
+ghost use Rattle.std.specs.Prelude.{◌≡◌, ◌≤◌, ◌+◌, length, [], ◌∷◌, ◌++◌, OnOk, OnErr};
+ghost use Rattle.kat_io.specs.ReadErrors.{faults_after_read, overlong_after_read};
 
 use crate::ReadError;
 use kat_text::Text;
 use sqlite_items::Items;
 use std::alloc::{AllocError, Global};
 
-/// The reads that were made, with their limits, and how many of them failed or went past their limit. The
-/// counts stay at the greatest u64.
+/// The reads that were made, with their limits, and how many of them failed or went past their
+/// limit. The counts stay at the greatest u64.
 #[derive(Drop)]
 pub(crate) struct ReadLog {
     alloc: Global,
@@ -19,6 +18,7 @@ pub(crate) struct ReadLog {
 }
 
 impl ReadLog {
+    /// The log of no read.
     pub(crate) fn new(alloc: Global) -> ReadLog
         ensures reads { result.reads ≡ [] }
         ensures faults { result.faults ≡ 0 }
@@ -34,7 +34,8 @@ impl ReadLog {
 
     /// Adds a read at the end.
     pub(crate) fn note(&mut self, name: &str, limit: u64) -> Result<(), AllocError>
-        ensures ok { OnOk result (self.new ≡ record self.old { reads = self.old.reads ++ (name.now, limit) ∷ [] }) }
+        ensures ok { OnOk result
+            (self.new ≡ record self.old { reads = self.old.reads ++ (name.now, limit) ∷ [] }) }
         ensures err { OnErr result (self.new ≡ self.old) }
     {
         let name = Text::new(self.alloc, name)?;
@@ -52,10 +53,10 @@ impl ReadLog {
     pub(crate) fn counted(&mut self, answer: Result<(), ReadError>) -> Result<(), ReadError>
         ensures same { result ≡ answer }
         ensures reads { self.new.reads ≡ self.old.reads }
-        ensures faults { self.old.faults ≤ self.new.faults }
-        ensures overlong { self.old.overlong ≤ self.new.overlong }
-        ensures failed { IfErr answer (λ e. IfReadFailed e (Rose self.old.faults self.new.faults)) }
-        ensures too_long { IfErr answer (λ e. IfTooLong e (λ _. Rose self.old.overlong self.new.overlong)) }
+        ensures faults { self.new.faults ≡ faults_after_read answer self.old.faults }
+        ensures overlong { self.new.overlong ≡ overlong_after_read answer self.old.overlong }
+        ensures faults_kept { self.old.faults ≤ self.new.faults }
+        ensures overlong_kept { self.old.overlong ≤ self.new.overlong }
     {
         match answer {
             Err(ReadError::Failed) => self.faults = self.faults.saturating_add(1),

@@ -1,9 +1,8 @@
-//! What no clause says: that calls succeed where memory lasts, and what the host's files and writers do.
-ghost use Rattle.std.specs.Prelude.{◌≡◌, ◌≤◌, ℕ, List, length, IfSome, IfOk, IfErr, OnOk};
-ghost use Rattle.kat_io.specs.Contents.{with_bytes, Grew};
-ghost use Rattle.kat_io.specs.Counts.{Rose};
-ghost use Rattle.kat_io.specs.ReadErrors.{IfReadFailed, IfTooLong, IsOverlong, IsNoted};
-ghost use Rattle.kat_io.specs.SinkErrors.{IfWriteFailed};
+//! What no clause says: that calls succeed where memory lasts, and what the host's files and
+//! writers do.
+ghost use Rattle.std.specs.Prelude.{◌≡◌, ◌≤◌, ℕ, List, length, IfSome, IfOk, IfErr, OnErr};
+ghost use Rattle.kat_io.specs.ReadErrors.{IfTooLong, WentPast};
+ghost use Rattle.kat_io.specs.Seen.{IsRead, IsWrite, Kept};
 
 use super::*;
 use kat_text::Text;
@@ -22,15 +21,14 @@ fn copy_file<F: Files, K: Sink>(
     name: &str,
     sink: &mut K,
 ) -> Result<Result<(), SinkError>, ReadError>
-    ensures done { IfOk result (λ written. OnOk written ((bytes : List ℕ) × (K.contents sink.new ≡ with_bytes (K.contents sink.old) bytes)
-        × (length bytes ≤ 4194304) × IfSome (F.told files.old name.now) (λ t. bytes ≡ t))) }
-    ensures told { F.told files.new ≡ F.told files.old }
-    ensures reads { IsNoted result (F.reads files.old) (F.reads files.new) (name.now, 4194304)
-        ((F.faults files.new ≡ F.faults files.old) × (F.overlong files.new ≡ F.overlong files.old)) }
-    ensures read_failed { IfErr result (λ e. IfReadFailed e (Rose (F.faults files.old) (F.faults files.new))) }
-    ensures too_long { IfErr result (λ e. IfTooLong e
-        (IsOverlong (F.told files.old name.now) 4194304 (F.overlong files.old) (F.overlong files.new))) }
-    ensures write_failed { IfOk result (λ written. IfErr written (λ e. IfWriteFailed e (Rose (K.faults sink.old) (K.faults sink.new)))) }
+    ensures read { IsRead result (name.now, 4194304) (F.seen files.old) (F.seen files.new) }
+    ensures kept { Kept (F.seen files.old) (F.seen files.new) }
+    ensures done { IfOk result (λ written. (bytes : List ℕ)
+        × IsWrite written bytes (K.seen sink.old) (K.seen sink.new)
+        × (length bytes ≤ 4194304) × IfSome ((F.seen files.old).told name.now) (λ t. bytes ≡ t)) }
+    ensures too_long { IfErr result
+        (λ e. IfTooLong e (WentPast ((F.seen files.old).told name.now) 4194304)) }
+    ensures unread { OnErr result (K.seen sink.new ≡ K.seen sink.old) }
 {
     let mut bytes = Vec::new(alloc);
     files.read(name, LIMIT, &mut bytes)?;

@@ -77,9 +77,9 @@ abbrev pub ListsFit : List (List Tree) → Type 0
 ListsFit [] = Unit {0}
 ListsFit (list ∷ outer) = (nesting_of_all list + (length outer + 1) ≤ 64) × ListsFit outer
 
-abbrev pub Fits : Progress → Type 0
-Fits (Whole t) = nesting t ≤ 64
-Fits (Open lists) = ListsFit lists
+abbrev pub ProgressFits : Progress → Type 0
+ProgressFits (Whole t) = nesting t ≤ 64
+ProgressFits (Open lists) = ListsFit lists
 
 joined-append : (xs ys : List (List Lexeme)) → joined (xs ++ ys) ≡ joined xs ++ joined ys
 joined-append [] ys = refl
@@ -106,7 +106,7 @@ tokens-with_tree t (list ∷ outer) =
 pub none_some : {A : Type 0} (y : A) → None ≡ Some y → ⊥
 none_some y e = cc
 
-fits-with_tree : (t : Tree) (lists : List (List Tree)) → ListsFit lists → nesting t + length lists ≤ 64 → Fits (with_tree t lists)
+fits-with_tree : (t : Tree) (lists : List (List Tree)) → ListsFit lists → nesting t + length lists ≤ 64 → ProgressFits (with_tree t lists)
 fits-with_tree t [] fits h = omega arith
 fits-with_tree t (list ∷ outer) fits h = let n = nesting_of_all-push list t in (omega arith, fits.1)
 
@@ -136,10 +136,10 @@ leaf_tokens : (token : Token) (lists : List (List Tree)) → tokens_of (with_tre
 leaf_tokens token lists = tokens-with_tree (tree.Atom token) lists ∙ ap (λ rest. read_so_far lists ++ rest) (lexemes_of-Atom token)
 
 abbrev Follows : Progress → Lexeme → Progress → Type 0
-Follows p x q = (tokens_of q ≡ tokens_of p ++ x ∷ []) × Fits q
+Follows p x q = (tokens_of q ≡ tokens_of p ++ x ∷ []) × ProgressFits q
 
 -- what progress is worth with one token more
-taken_tokens : (p q : Progress) (x : Lexeme) → taken p x ≡ Some q → Fits p → (tokens_of q ≡ tokens_of p ++ x ∷ []) × Fits q
+taken_tokens : (p q : Progress) (x : Lexeme) → taken p x ≡ Some q → ProgressFits p → (tokens_of q ≡ tokens_of p ++ x ∷ []) × ProgressFits q
 taken_tokens (Whole t) q x e fits = absurd (none_some q e)
 taken_tokens (Open lists) q Opening e fits =
     let opens = chosen_some (ltb (length lists) 64) (Open ([] ∷ lists)) q e in
@@ -157,10 +157,10 @@ taken_tokens (Open lists) q (Leaf token) e fits =
     subst (Follows (Open lists) (Leaf token)) (some_same (with_tree (tree.Atom token) lists) q e)
     (leaf_tokens token lists, fits-with_tree (tree.Atom token) lists fits (omega arith))
 
-pub goes_tokens : (xs : List Lexeme) (p q : Progress) → goes p xs ≡ Some q → Fits p → (tokens_of q ≡ tokens_of p ++ xs) × Fits q
+pub goes_tokens : (xs : List Lexeme) (p q : Progress) → goes p xs ≡ Some q → ProgressFits p → (tokens_of q ≡ tokens_of p ++ xs) × ProgressFits q
 goes_tokens [] p q e fits =
     let same = some_same p q e in
-    (ap tokens_of (sym same) ∙ sym (append-nil (tokens_of p)), subst Fits same fits)
+    (ap tokens_of (sym same) ∙ sym (append-nil (tokens_of p)), subst ProgressFits same fits)
 goes_tokens (x ∷ xs) p q e fits =
     let step = and_then_some (taken p x) (λ r. goes r xs) q e in
     let first = taken_tokens p step.0 x step.1.0 fits in

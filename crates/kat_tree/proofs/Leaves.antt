@@ -13,7 +13,7 @@ use Rattle.kat_tree.specs.declared.tree.Tree.TheVariants.{rolls-Atom, rolls-List
 use Rattle.kat_tree.specs.declared.tree.Tree.TheOpen.{Tree-F}
 use Rattle.kat_tree.specs.declared.tree.Tree.TheFolds.{fold-roll-Tree}
 use Rattle.kat_tree.specs.Lexeme.{Lexeme, Opening, Closing, Leaf, joined, lexemes_of, lexemes_of_all}
-use Rattle.kat_tree.specs.Spelling.{Lexes, nothing, blank, comment, opening, closing, word, IsWord, StandsFor, Spells}
+use Rattle.kat_tree.specs.Spelling.{Lexes, nothing, blank, comment, opening, closing, word, IsWord, SpellsToken, Spells}
 use Rattle.kat_tree.specs.Written.{IsToken, IsWritable, tokens_in, tokens_of}
 use Rattle.kat_tree.proofs.Trees.{tree_induction, lexemes_of-Atom, lexemes_of-List}
 
@@ -65,7 +65,7 @@ scalars-parts (x ∷ xs) ys all =
     (and_from (scalar x) (scalars xs) first.0 more.0, more.1)
 
 -- a word's token
-token_is : (w : List ℕ) (token : Token) → scalars w ≡ true → IsWord w → StandsFor w token → IsToken token
+token_is : (w : List ℕ) (token : Token) → scalars w ≡ true → IsWord w → SpellsToken w token → IsToken token
 token_is w (Number n) text is (inl stands) = stands.fits
 token_is w (Number n) text is (inr stands) = stands.numeral.fits
 token_is w (Name bytes) text is stands = record {

@@ -8,7 +8,7 @@ pub mod Lexing
 pub mod Outcome
 pub mod Sound
 pub mod Exact
-pub mod Owed
+pub mod Outcomes
 pub mod Numbers
 pub mod Starts
 pub mod Leaves

@@ -6,7 +6,7 @@ use Rattle.std.proofs.lemmas.Bool.{cond-false, eqb-true, and_parts, false_from_n
 use Rattle.std.proofs.lemmas.Str.{encodes-chars}
 use Rattle.kat_tree.specs.declared.tree.Token.TheVariants.{Number}
 use Rattle.kat_tree.specs.Number.{digits_number, word_number}
-use Rattle.kat_tree.specs.Spelling.{StandsFor}
+use Rattle.kat_tree.specs.Spelling.{SpellsToken}
 use Rattle.kat_tree.proofs.Text.{encode_utf8_all-ascii, IsUtf8-behind, chars-ascii}
 use Rattle.kat_tree.proofs.Words.{word_number_is, word_number_from}
 
@@ -38,9 +38,9 @@ plain_number word text none = plain_characters (chars word) (λ more e.
     ∙ encode_utf8_all-ascii 48 (120 ∷ more) (120 ∷ encode_utf8_all more) (omega arith) (encode_utf8_all-ascii 120 more (encode_utf8_all more) (omega arith) refl)))
 
 -- what the number of a word says of it
-pub number_stands : (word : List ℕ) (r : Option ℕ) → word_number word ≡ r → IfSome r (λ n. StandsFor word (Number n))
+pub number_stands : (word : List ℕ) (r : Option ℕ) → word_number word ≡ r → IfSome r (λ n. SpellsToken word (Number n))
 number_stands word None e = tt
 number_stands word (Some n) e = word_number_is n word e
 
-pub number_only : (word : List ℕ) (r : Option ℕ) → word_number word ≡ r → (n : ℕ) → StandsFor word (Number n) → r ≡ Some n
+pub number_only : (word : List ℕ) (r : Option ℕ) → word_number word ≡ r → (n : ℕ) → SpellsToken word (Number n) → r ≡ Some n
 number_only word r e n stands = sym e ∙ word_number_from n word stands

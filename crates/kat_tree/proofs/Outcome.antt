@@ -11,7 +11,7 @@ use Rattle.kat_tree.specs.declared.progress.Progress.{Progress}
 use Rattle.kat_tree.specs.declared.progress.Progress.TheVariants.{Open, Whole}
 use Rattle.kat_tree.specs.Character.{is_blank, begins_word}
 use Rattle.kat_tree.specs.Lexeme.{Lexeme, lexemes_of}
-use Rattle.kat_tree.specs.Spelling.{Lexes, IsWord, EndsWord, StandsFor}
+use Rattle.kat_tree.specs.Spelling.{Lexes, IsWord, EndsWord, SpellsToken}
 use Rattle.kat_tree.specs.Faults.{BeginsWith, BeginsMore, BeginsNothing, BeginsNoToken, size, Front, ReadsAs}
 use Rattle.kat_tree.specs.Machine.{◌>>=◌, with_token, word_token, marked, run, start}
 use Rattle.kat_tree.proofs.Goes.{goes, goes_count, finished_whole, unfinished_open}
@@ -75,11 +75,11 @@ nothing_run c cs at lists is =
     run-cons at (between (Open lists)) c cs ∙ ap (λ r. r >>= λ next. run (at + len_utf8 c) next cs) (begun-mark at (Open lists) c is.no_blank (ne_eqb c 59 is.no_comment) is.no_word)
     ∙ ap (λ r. (r >>= λ q. Ok (between q)) >>= λ next. run (at + len_utf8 c) next cs) (marked-Open at c lists is.no_opening is.no_closing)
 
-no_token : (w : List ℕ) (r : Option Token) → word_token w ≡ r → IsWord w → ((token : Token) → StandsFor w token → ⊥) → word_token w ≡ None
+no_token : (w : List ℕ) (r : Option Token) → word_token w ≡ r → IsWord w → ((token : Token) → SpellsToken w token → ⊥) → word_token w ≡ None
 no_token w None e is bad = e
 no_token w (Some token) e is bad = absurd (bad token (word_token_is w token is e))
 
-bad_word_run : (w behind : List ℕ) (at : ℕ) (lists : List (List Tree)) → IsWord w → EndsWord behind → ((token : Token) → StandsFor w token → ⊥) → run at (between (Open lists)) (w ++ behind) ≡ Err (BadToken at)
+bad_word_run : (w behind : List ℕ) (at : ℕ) (lists : List (List Tree)) → IsWord w → EndsWord behind → ((token : Token) → SpellsToken w token → ⊥) → run at (between (Open lists)) (w ++ behind) ≡ Err (BadToken at)
 bad_word_run [] behind at lists is ends bad = absurd is
 bad_word_run (c ∷ cs) behind at lists is ends bad =
     word_read c cs behind at (Open lists) is ends

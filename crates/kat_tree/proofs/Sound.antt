@@ -13,7 +13,7 @@ use Rattle.kat_tree.specs.declared.progress.Progress.{Progress}
 use Rattle.kat_tree.specs.declared.progress.Progress.TheVariants.{Open, Whole}
 use Rattle.kat_tree.specs.Character.{is_blank, begins_word}
 use Rattle.kat_tree.specs.Lexeme.{Lexeme, Opening, Closing, Leaf}
-use Rattle.kat_tree.specs.Spelling.{Lexes, nothing, blank, comment, opening, closing, word, IsWord, EndsWord, EndsComment, StandsFor}
+use Rattle.kat_tree.specs.Spelling.{Lexes, nothing, blank, comment, opening, closing, word, IsWord, EndsWord, EndsComment, SpellsToken}
 use Rattle.kat_tree.specs.Faults.{BeginsNothing, size}
 use Rattle.kat_tree.specs.Machine.{◌>>=◌, opened, closed, with_tree, with_token, with_word, word_token, finished, begun, run}
 use Rattle.kat_tree.proofs.Goes.{taken, goes, none_some}
@@ -167,7 +167,7 @@ with_closing at p q cs r step reads = record {
   ends = reads.ends;
 }
 
-with_leaf : (at here : ℕ) (p q : Progress) (w more : List ℕ) (token : Token) (r : Result Tree TreeError) → IsWord w → EndsWord more → StandsFor w token → here ≡ at + size w → taken p (Leaf token) ≡ Some q → Reaches here q more r → Reaches at p (w ++ more) r
+with_leaf : (at here : ℕ) (p q : Progress) (w more : List ℕ) (token : Token) (r : Result Tree TreeError) → IsWord w → EndsWord more → SpellsToken w token → here ≡ at + size w → taken p (Leaf token) ≡ Some q → Reaches here q more r → Reaches at p (w ++ more) r
 with_leaf at here p q w more token r is ends stands here_is step reads = record {
   lexemes = Leaf token ∷ reads.lexemes;
   rest = reads.rest;

@@ -13,7 +13,7 @@ use Rattle.kat_tree.specs.declared.tree.Token.TheVariants.{Number, Name}
 use Rattle.kat_tree.specs.Character.{is_blank, begins_name, begins_word}
 use Rattle.kat_tree.specs.Number.{with_digit, with_digits, digits_number, word_number}
 use Rattle.kat_tree.specs.Machine.{number_token, word_token}
-use Rattle.kat_tree.specs.Spelling.{value_behind, IsNumeral, IsWord, StandsFor}
+use Rattle.kat_tree.specs.Spelling.{value_behind, IsNumeral, IsWord, SpellsToken}
 use Rattle.kat_tree.proofs.Goes.{none_some, some_same, chosen_some, and_then_some, cons_nil}
 
 -- an ASCII character that is neither a digit, a letter nor `_` begins no word
@@ -103,7 +103,7 @@ digits_number_from k n (digit ∷ digits) is =
     digits_number-cons (k + 1) digit digits ∙ with_digits_from k 0 (digit ∷ digits) is.all (subst (λ m. m < 2 ^ 64) is.value is.fits) ∙ ap Some (sym is.value)
 
 -- numbers
-by_mark : (n c d : ℕ) (more : List ℕ) (b : Bool) → (eqb c 48 && eqb d 120) ≡ b → cond b (digits_number 16 more) (digits_number 10 (c ∷ d ∷ more)) ≡ Some n → StandsFor (c ∷ d ∷ more) (Number n)
+by_mark : (n c d : ℕ) (more : List ℕ) (b : Bool) → (eqb c 48 && eqb d 120) ≡ b → cond b (digits_number 16 more) (digits_number 10 (c ∷ d ∷ more)) ≡ Some n → SpellsToken (c ∷ d ∷ more) (Number n)
 by_mark n c d more true test e =
     let parts = and_parts (eqb c 48) (eqb d 120) test in
     let c_is : c ≡ 48 = eqb-true c 48 parts.0 in
@@ -123,12 +123,12 @@ decimal_from n (c ∷ []) is = digits_number_from 9 n (c ∷ []) is
 decimal_from n (c ∷ d ∷ more) is =
     cond-false (eqb c 48 && eqb d 120) (digits_number 16 more) (digits_number 10 (c ∷ d ∷ more)) (no_mark c d n more is) ∙ digits_number_from 9 n (c ∷ d ∷ more) is
 
-pub word_number_is : (n : ℕ) (word : List ℕ) → word_number word ≡ Some n → StandsFor word (Number n)
+pub word_number_is : (n : ℕ) (word : List ℕ) → word_number word ≡ Some n → SpellsToken word (Number n)
 word_number_is n [] e = absurd (none_some n e)
 word_number_is n (c ∷ []) e = inl (digits_number_is 10 n (c ∷ []) e)
 word_number_is n (c ∷ d ∷ more) e = by_mark n c d more (eqb c 48 && eqb d 120) refl e
 
-pub word_number_from : (n : ℕ) (word : List ℕ) → StandsFor word (Number n) → word_number word ≡ Some n
+pub word_number_from : (n : ℕ) (word : List ℕ) → SpellsToken word (Number n) → word_number word ≡ Some n
 word_number_from n word (inl is) = decimal_from n word is
 word_number_from n word (inr is) = ap word_number is.marked ∙ digits_number_from 15 n is.digits is.numeral
 
@@ -137,27 +137,27 @@ number_some : (r : Option ℕ) (token : Token) → number_token r ≡ Some token
 number_some None token e = absurd (none_some token e)
 number_some (Some n) token e = (n, (refl, some_same (Number n) token e))
 
-by_first : (c : ℕ) (cs : List ℕ) (token : Token) → IsWord (c ∷ cs) → (b : Bool) → is_ascii_digit c ≡ b → cond b (number_token (word_number (c ∷ cs))) (Some (Name (encode_utf8_all (c ∷ cs)))) ≡ Some token → StandsFor (c ∷ cs) token
+by_first : (c : ℕ) (cs : List ℕ) (token : Token) → IsWord (c ∷ cs) → (b : Bool) → is_ascii_digit c ≡ b → cond b (number_token (word_number (c ∷ cs))) (Some (Name (encode_utf8_all (c ∷ cs)))) ≡ Some token → SpellsToken (c ∷ cs) token
 by_first c cs token is true test e =
     let number = number_some (word_number (c ∷ cs)) token e in
-    subst (StandsFor (c ∷ cs)) number.1.1 (word_number_is number.0 (c ∷ cs) number.1.0)
+    subst (SpellsToken (c ∷ cs)) number.1.1 (word_number_is number.0 (c ∷ cs) number.1.0)
 by_first c cs token is false test e =
     let begins : begins_name c ≡ true = ⊎_elim (λ digit. absurd (both_ways (is_ascii_digit c) test digit)) (λ name. name) (or_cases (is_ascii_digit c) (begins_name c) is.0) in
-    subst (StandsFor (c ∷ cs)) (some_same (Name (encode_utf8_all (c ∷ cs))) token e) (begins, refl)
+    subst (SpellsToken (c ∷ cs)) (some_same (Name (encode_utf8_all (c ∷ cs))) token e) (begins, refl)
 
 first_same : (c d : ℕ) (cs ds : List ℕ) → c ∷ cs ≡ d ∷ ds → c ≡ d
 first_same c d cs ds e = cc
 
-number_begins : (c n : ℕ) (cs : List ℕ) → StandsFor (c ∷ cs) (Number n) → is_ascii_digit c ≡ true
+number_begins : (c n : ℕ) (cs : List ℕ) → SpellsToken (c ∷ cs) (Number n) → is_ascii_digit c ≡ true
 number_begins c n cs (inl is) = decimal-is_digit c is.all.0
 number_begins c n cs (inr is) = subst (λ d. is_ascii_digit d ≡ true) (sym (first_same c 48 cs (120 ∷ is.digits) is.marked)) refl
 
-pub word_token_is : (word : List ℕ) (token : Token) → IsWord word → word_token word ≡ Some token → StandsFor word token
+pub word_token_is : (word : List ℕ) (token : Token) → IsWord word → word_token word ≡ Some token → SpellsToken word token
 unfolding word_token
 word_token_is [] token is e = absurd is
 word_token_is (c ∷ cs) token is e = by_first c cs token is (is_ascii_digit c) refl e
 
-pub word_token_from : (word : List ℕ) (token : Token) → IsWord word → StandsFor word token → word_token word ≡ Some token
+pub word_token_from : (word : List ℕ) (token : Token) → IsWord word → SpellsToken word token → word_token word ≡ Some token
 unfolding word_token
 word_token_from [] token is stands = absurd is
 word_token_from (c ∷ cs) (Number n) is stands =

@@ -21,7 +21,7 @@ use Rattle.kat_tree.specs.declared.tree.Tree.TheOpen.{Tree-F}
 use Rattle.kat_tree.specs.declared.tree.Tree.TheFolds.{fold-roll-Tree}
 use Rattle.kat_tree.specs.Character.{begins_name, begins_word}
 use Rattle.kat_tree.specs.Lexeme.{Lexeme, Opening, Closing, Leaf, joined, lexemes_of, lexemes_of_all}
-use Rattle.kat_tree.specs.Spelling.{value_behind, Lexes, nothing, blank, opening, closing, word, IsWord, StandsFor, EndsWord, Spells}
+use Rattle.kat_tree.specs.Spelling.{value_behind, Lexes, nothing, blank, opening, closing, word, IsWord, SpellsToken, EndsWord, Spells}
 use Rattle.kat_tree.specs.Written.{IsToken, IsWritable, tokens_of, text_of_token, behind_spaces, spaced, text_in, text_of_tree}
 use Rattle.kat_tree.proofs.Trees.{tree_induction, lexemes_of-Atom, lexemes_of-List}
 use Rattle.kat_tree.proofs.Words.{decimal-is_digit}
@@ -88,7 +88,7 @@ writes_space bytes xs a = record {
   lexes = λ behind more rest ends lexes. blank 32 (a.characters ++ behind) (xs ++ more) rest refl (a.lexes behind more rest ends lexes);
 }
 
-writes_word : (token : Token) (bytes w : List ℕ) → IsWord w → StandsFor w token → encode_utf8_all w ≡ bytes → scalars w ≡ true → Writes bytes (Leaf token ∷ [])
+writes_word : (token : Token) (bytes w : List ℕ) → IsWord w → SpellsToken w token → encode_utf8_all w ≡ bytes → scalars w ≡ true → Writes bytes (Leaf token ∷ [])
 writes_word token bytes w is stands bytes_are text = record {
   characters = w;
   bytes_are = bytes_are;

@@ -6,8 +6,8 @@ use Rattle.kat_tree.specs.declared.error.TreeError.TheVariants.{NotText, Unclose
 use Rattle.kat_tree.specs.declared.tree.Token.{Token}
 use Rattle.kat_tree.specs.declared.tree.Tree.{Tree}
 use Rattle.kat_tree.specs.Character.{is_blank, begins_word}
-use Rattle.kat_tree.specs.Lexeme.{Lexeme, Opening, Closing, Leaf, lexemes_of, nesting}
-use Rattle.kat_tree.specs.Spelling.{Lexes, IsWord, EndsWord, StandsFor, IsTextOf, Spells}
+use Rattle.kat_tree.specs.Lexeme.{Lexeme, Opening, Closing, Leaf, lexemes_of, most_open, nesting}
+use Rattle.kat_tree.specs.Spelling.{Lexes, IsWord, EndsWord, SpellsToken, IsTextOf, Spells}
 
 -- these tokens begin the tokens of a tree, and are not all of them
 pub record IsUnfinished (lexemes : List Lexeme) : Type 0 where
@@ -15,13 +15,13 @@ pub record IsUnfinished (lexemes : List Lexeme) : Type 0 where
   pub tree : Tree
   pub some : more ≢ []
   pub begins : lexemes ++ more ≡ lexemes_of tree
-  pub shallow : nesting tree ≤ 64
+  pub shallow : nesting tree ≤ most_open
 
 -- these tokens are those of a tree
 pub record IsFinished (lexemes : List Lexeme) : Type 0 where
   pub tree : Tree
   pub whole : lexemes ≡ lexemes_of tree
-  pub shallow : nesting tree ≤ 64
+  pub shallow : nesting tree ≤ most_open
 
 -- how many brackets open
 abbrev pub openings : List Lexeme → ℕ
@@ -55,14 +55,14 @@ pub record BeginsNothing (c : ℕ) : Type 0 where
   pub no_closing : c ≢ 41
   pub no_word : IsFalse (begins_word c)
 
--- a whole word that stands for no token
+-- a whole word that spells no token
 pub record IsBadWord (text : List ℕ) : Type 0 where
   pub word : List ℕ
   pub behind : List ℕ
   pub parts : text ≡ word ++ behind
   pub is_word : IsWord word
   pub ends : EndsWord behind
-  pub bad : (token : Token) → StandsFor word token → ⊥
+  pub bad : (token : Token) → SpellsToken word token → ⊥
 
 -- at the front stands neither a blank, a comment nor a token
 abbrev pub BeginsNoToken : List ℕ → Type 0
@@ -92,13 +92,13 @@ pub record HasBadToken (text : List ℕ) (offset : ℕ) : Type 0 where
   pub unfinished : IsUnfinished lexemes
   pub bad : BeginsNoToken rest
 
--- where 64 brackets are open, one more opens
+-- where as many brackets are open as may be, one more opens
 pub record IsTooDeep (text : List ℕ) (offset : ℕ) : Type 0 where
   pub lexemes : List Lexeme
   pub rest : List ℕ
   pub front : Front text offset lexemes rest
   pub unfinished : IsUnfinished lexemes
-  pub full : openings lexemes ≡ closings lexemes + 64
+  pub full : openings lexemes ≡ closings lexemes + most_open
   pub opens : BeginsWith 40 rest
 
 -- before any token a `)` stands
@@ -125,7 +125,8 @@ ReadsAs text (Err (BadToken offset)) = HasBadToken text offset
 ReadsAs text (Err (Deep offset)) = IsTooDeep text offset
 ReadsAs text (Err Memory) = ⊥
 
--- The first fault of bytes. Bytes that are no text have that fault alone, at the end of their longest front that is.
+-- the first fault of bytes: those that are no text have that fault alone, at the end of their
+-- longest front that is
 abbrev pub IsFirstFault : List ℕ → TreeError → Type 0
 IsFirstFault bytes (NotText offset) = (IsUtf8 bytes → ⊥) × IsValidUpTo bytes offset
 IsFirstFault bytes (Unclosed offset) = IsUtf8 bytes × ReadsAs (chars bytes) (Err (Unclosed offset))

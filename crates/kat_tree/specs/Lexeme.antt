@@ -43,6 +43,10 @@ nesting_in (Tree-F.List parts) = greatest parts + 1
 abbrev pub nesting : Tree → ℕ
 nesting = fold-Tree ℕ nesting_in
 
+-- as many brackets of a text may be open at once
+abbrev pub most_open : ℕ
+most_open = 64
+
 -- that of trees side by side
 abbrev pub nesting_of_all : List Tree → ℕ
 nesting_of_all trees = greatest (map nesting trees)

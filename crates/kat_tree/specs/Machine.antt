@@ -14,11 +14,13 @@ use Rattle.kat_tree.specs.declared.reader.Mode.{Mode}
 use Rattle.kat_tree.specs.declared.reader.Mode.TheVariants.{Between, Comment, Word}
 use Rattle.kat_tree.specs.declared.reader.Reader.{Reader}
 use Rattle.kat_tree.specs.Character.{is_blank, begins_word}
+use Rattle.kat_tree.specs.Lexeme.{most_open}
 use Rattle.kat_tree.specs.Number.{word_number}
 
 -- goes on from what was read
 infixl 10 ◌>>=◌
-abbrev pub ◌>>=◌ : {A B : Type 0} → Result A TreeError → (A → Result B TreeError) → Result B TreeError
+abbrev pub ◌>>=◌ :
+    {A B : Type 0} → Result A TreeError → (A → Result B TreeError) → Result B TreeError
 (Ok x) >>= f = f x
 (Err e) >>= f = Err e
 
@@ -37,10 +39,11 @@ abbrev pub with_tree : Tree → List (List Tree) → Progress
 with_tree t [] = Whole t
 with_tree t (list ∷ outer) = Open ((list ++ t ∷ []) ∷ outer)
 
--- a `(`, of which at most 64 may be open
+-- a `(`, of which no more may be open than that many
 abbrev pub opened : ℕ → Progress → Result Progress TreeError
 opened at (Whole t) = Err (Stray at)
-opened at (Open lists) = if nat_lt (length lists) 64 then Ok (Open ([] ∷ lists)) else Err (Deep at)
+opened at (Open lists) =
+    if nat_lt (length lists) most_open then Ok (Open ([] ∷ lists)) else Err (Deep at)
 
 -- a `)`
 abbrev pub closed : ℕ → Progress → Result Progress TreeError
@@ -56,7 +59,9 @@ number_token (Some n) = Some (Number n)
 -- the token that a whole word spells
 unfoldable pub word_token : List ℕ → Option Token
 word_token [] = Some (Name [])
-word_token (c ∷ cs) = if is_ascii_digit c then number_token (word_number (c ∷ cs)) else Some (Name (encode_utf8_all (c ∷ cs)))
+word_token (c ∷ cs) =
+    if is_ascii_digit c then number_token (word_number (c ∷ cs))
+    else Some (Name (encode_utf8_all (c ∷ cs)))
 
 -- a word's token is there, or the word is none
 abbrev pub with_token : ℕ → List (List Tree) → Option Token → Result Progress TreeError
@@ -80,7 +85,9 @@ refused at (Open lists) = Err (BadToken at)
 
 -- a bracket, or a character that begins nothing
 unfoldable pub marked : ℕ → Progress → ℕ → Result Progress TreeError
-marked at progress c = if c == 40 then opened at progress else (if c == 41 then closed at progress else refused at progress)
+marked at progress c =
+    if c == 40 then opened at progress
+    else (if c == 41 then closed at progress else refused at progress)
 
 -- a character that belongs to nothing before it
 unfoldable pub begun : ℕ → Progress → ℕ → Result Reader TreeError
@@ -93,9 +100,11 @@ begun at progress c =
 -- one character more, by what it may belong to
 abbrev pub stepped_in : ℕ → Mode → Progress → ℕ → Result Reader TreeError
 stepped_in at Between progress c = begun at progress c
-stepped_in at Comment progress c = Ok (record { mode = (if c == 10 then Between else Comment); progress = progress })
+stepped_in at Comment progress c =
+    Ok (record { mode = (if c == 10 then Between else Comment); progress = progress })
 stepped_in at (Word from word) progress c =
-    if is_xid_continue c then Ok (record { mode = Word from (word ++ c ∷ []); progress = progress })
+    if is_xid_continue c
+    then Ok (record { mode = Word from (word ++ c ∷ []); progress = progress })
     else (with_word from word progress >>= λ p. begun at p c)
 
 -- one character more

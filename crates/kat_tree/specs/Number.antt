@@ -23,4 +23,5 @@ digits_number base digits = if length digits == 0 then None else with_digits bas
 abbrev pub word_number : List ℕ → Option ℕ
 word_number [] = None
 word_number (c ∷ []) = digits_number 10 (c ∷ [])
-word_number (c ∷ d ∷ more) = if (c == 48) && (d == 120) then digits_number 16 more else digits_number 10 (c ∷ d ∷ more)
+word_number (c ∷ d ∷ more) =
+    if (c == 48) && (d == 120) then digits_number 16 more else digits_number 10 (c ∷ d ∷ more)

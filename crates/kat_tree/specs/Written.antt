@@ -8,7 +8,7 @@ use Rattle.kat_tree.specs.declared.tree.Token.TheVariants.{Number, Name}
 use Rattle.kat_tree.specs.declared.tree.Tree.{Tree}
 use Rattle.kat_tree.specs.declared.tree.Tree.TheOpen.{Tree-F}
 use Rattle.kat_tree.specs.declared.tree.Tree.TheFolds.{fold-Tree}
-use Rattle.kat_tree.specs.Lexeme.{joined, nesting}
+use Rattle.kat_tree.specs.Lexeme.{joined, most_open, nesting}
 use Rattle.kat_tree.specs.Spelling.{BeginsName, IsWord}
 
 -- the bytes are text, and their characters are a letter or `_` and then characters of XID_Continue
@@ -36,7 +36,7 @@ tokens_of = fold-Tree (List Token) tokens_in
 -- some bytes spell the tree: its tokens are such, and it nests no deeper than a text may
 pub record IsWritable (tree : Tree) : Type 0 where
   pub tokens : AllByRecursion IsToken (tokens_of tree)
-  pub nesting : nesting tree ≤ 64
+  pub nesting : nesting tree ≤ most_open
 
 -- a number in decimal, a name as it is
 abbrev pub text_of_token : Token → List ℕ
@@ -58,6 +58,7 @@ abbrev pub text_in : Tree-F (List ℕ) → List ℕ
 text_in (Tree-F.Atom token) = text_of_token token
 text_in (Tree-F.List texts) = 40 ∷ (spaced texts ++ 41 ∷ [])
 
--- the bytes of a tree with one space between two trees, none inside the brackets' ends, and no comment
+-- the bytes of a tree with one space between two trees, none inside the brackets' ends, and no
+-- comment
 abbrev pub text_of_tree : Tree → List ℕ
 text_of_tree = fold-Tree (List ℕ) text_in

@@ -1,3 +1,5 @@
+//! The tree of a text, as far as its tokens have been read.
+
 ghost use Rattle.std.specs.Prelude.{◌≡◌, IfOk};
 ghost use Rattle.kat_tree.specs.Machine.{Gives, with_tree, opened, closed, with_word, finished};
 
@@ -8,8 +10,8 @@ use crate::word::word_token;
 use sqlite_items::Items;
 use std::alloc::{AllocError, Global};
 
-/// As many brackets may be open at once.
-pub(crate) const MOST_OPEN: usize = 64;
+/// As many brackets of a text may be open at once.
+pub const MOST_OPEN: usize = 64;
 
 /// How far the tree of a text has come.
 #[derive(Drop)]
@@ -17,22 +19,6 @@ pub(crate) enum Progress {
     /// It has not ended: these lists are open, and with none it has not begun.
     Open(Stack<Trees>),
     Whole(Tree),
-}
-
-/// A tree ends: it is one more in the innermost list, or the tree of the text.
-fn with_tree(lists: Stack<Trees>, tree: Tree) -> Result<Progress, AllocError>
-    ensures { IfOk result (λ p. p ≡ with_tree tree lists) }
-{
-    let mut lists = lists;
-    match lists.pop() {
-        None => Ok(Progress::Whole(tree)),
-        Some(list) => {
-            let mut list = list;
-            list.push(tree)?;
-            lists.push(list)?;
-            Ok(Progress::Open(lists))
-        }
-    }
 }
 
 /// A `(` stands at this offset.
@@ -93,5 +79,21 @@ pub(crate) fn finished(progress: Progress, at: u64) -> Result<Tree, TreeError>
     match progress {
         Progress::Whole(tree) => Ok(tree),
         Progress::Open(_) => Err(TreeError::Unclosed(at)),
+    }
+}
+
+/// A tree ends: it is one more in the innermost list, or the tree of the text.
+fn with_tree(lists: Stack<Trees>, tree: Tree) -> Result<Progress, AllocError>
+    ensures { IfOk result (λ p. p ≡ with_tree tree lists) }
+{
+    let mut lists = lists;
+    match lists.pop() {
+        None => Ok(Progress::Whole(tree)),
+        Some(list) => {
+            let mut list = list;
+            list.push(tree)?;
+            lists.push(list)?;
+            Ok(Progress::Open(lists))
+        }
     }
 }

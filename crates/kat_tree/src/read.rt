@@ -1,8 +1,10 @@
-ghost use Rattle.std.specs.Prelude.{◌≡◌, ◌≢◌, ℕ, List, Result, Ok, Err, IfOk, IfErr};
+//! Bytes read as a tree.
+
+ghost use Rattle.std.specs.Prelude.{◌≢◌, Ok, Err, IfOk, IfErr};
 ghost use Rattle.std.specs.Str.{chars};
 ghost use Rattle.kat_tree.specs.Machine.{Gives, run, start};
 ghost use Rattle.kat_tree.specs.Spelling.{Spells};
-ghost use Rattle.kat_tree.specs.Faults.{IsFirstFault, Owes};
+ghost use Rattle.kat_tree.specs.Faults.{IsFirstFault};
 ghost use Rattle.kat_tree.specs.declared.error.TreeError.{TreeError};
 ghost use Rattle.kat_tree.specs.declared.tree.Tree.{Tree};
 
@@ -12,6 +14,26 @@ use crate::reader::{Mode, Reader, ended, stepped};
 use crate::stack::Stack;
 use crate::tree::Tree;
 use std::alloc::Global;
+
+/// The tree that the bytes spell: UTF-8, and in it one tree with blanks and comments around it. An
+/// error but `Memory` is the first fault of the bytes, as `TreeError` names it.
+pub fn read_tree(alloc: Global, bytes: &[u8]) -> Result<Tree, TreeError>
+    // What is read is what the bytes spell.
+    ensures found { IfOk result (Spells bytes.now) }
+    // What the bytes spell is read, unless memory runs out.
+    ensures only { (tree : Tree) → Spells bytes.now tree → Gives result (Ok tree) }
+
+    // A fault is the first one of the bytes.
+    ensures fault { IfErr result
+        (λ fault. fault ≢ TreeError.Memory → IsFirstFault bytes.now fault) }
+    // The first fault of the bytes is the answer, unless memory runs out.
+    ensures first { (fault : TreeError) → IsFirstFault bytes.now fault → Gives result (Err fault) }
+{
+    match str::from_utf8(bytes) {
+        Ok(text) => read_text(alloc, text),
+        Err(error) => Err(TreeError::NotText(error.valid_up_to() as u64)),
+    }
+}
 
 /// The tree of a text, in one pass over its characters.
 fn read_text(alloc: Global, text: &str) -> Result<Tree, TreeError>
@@ -29,33 +51,3 @@ fn read_text(alloc: Global, text: &str) -> Result<Tree, TreeError>
     }
     ended(alloc, reader, at)
 }
-
-/// The tree that the bytes spell: UTF-8, and in it one tree with blanks and comments around it. An error but
-/// `Memory` is the first fault of the bytes, as `TreeError` names it.
-pub fn read_tree(alloc: Global, bytes: &[u8]) -> Result<Tree, TreeError>
-    // What is read is what the bytes spell.
-    ensures found { IfOk result (Spells bytes.now) }
-    // What the bytes spell is read, unless memory runs out.
-    ensures only { (tree : Tree) → Spells bytes.now tree → Gives result (Ok tree) }
-
-    // A fault is the first one of the bytes.
-    ensures fault { IfErr result (λ fault. fault ≢ TreeError.Memory → IsFirstFault bytes.now fault) }
-    // The first fault of the bytes is the answer, unless memory runs out.
-    ensures first { (fault : TreeError) → IsFirstFault bytes.now fault → Gives result (Err fault) }
-{
-    match str::from_utf8(bytes) {
-        Ok(text) => read_text(alloc, text),
-        Err(error) => Err(TreeError::NotText(error.valid_up_to() as u64)),
-    }
-}
-
-/// Bytes spell at most one tree.
-pub fn one_tree()
-    ensures { (bytes : List ℕ) (first second : Tree) → Spells bytes first → Spells bytes second → first ≡ second }
-{}
-
-/// For all bytes one thing is owed, and one alone: the tree that they spell, or their first fault.
-pub fn one_outcome()
-    ensures some { (bytes : List ℕ) → (outcome : Result Tree TreeError) × Owes bytes outcome }
-    ensures one { (bytes : List ℕ) (first second : Result Tree TreeError) → Owes bytes first → Owes bytes second → first ≡ second }
-{}

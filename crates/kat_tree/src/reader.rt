@@ -1,3 +1,5 @@
+//! The reading of a text, character by character.
+
 ghost use Rattle.std.specs.Prelude.{◌≡◌};
 ghost use Rattle.kat_tree.specs.Character.{is_blank, begins_word};
 ghost use Rattle.kat_tree.specs.Machine.{Gives, begun, marked, stepped, ended};
@@ -26,18 +28,47 @@ pub(crate) struct Reader {
     pub(crate) progress: Progress,
 }
 
-/// A space, a tab, a newline or a carriage return.
-fn is_blank(c: char) -> bool
-    ensures { result ≡ is_blank c }
+/// The reading with one character more, which stands at this offset.
+pub(crate) fn stepped(alloc: Global, reader: Reader, at: u64, c: char) -> Result<Reader, TreeError>
+    ensures { Gives result (stepped at reader c) }
 {
-    matches!(c, ' ' | '\t' | '\n' | '\r')
+    let Reader { mode, progress } = reader;
+    match mode {
+        Mode::Between => begun(alloc, progress, at, c),
+        Mode::Comment => Ok(Reader {
+            mode: if c == '\n' {
+                Mode::Between
+            } else {
+                Mode::Comment
+            },
+            progress,
+        }),
+        Mode::Word(start, word) => {
+            let mut word = word;
+            if is_xid_continue(c) {
+                word.push(c)?;
+                return Ok(Reader {
+                    mode: Mode::Word(start, word),
+                    progress,
+                });
+            }
+            let progress = with_word(alloc, progress, start, word.as_slice())?;
+            begun(alloc, progress, at, c)
+        }
+    }
 }
 
-/// A digit, `_` or a letter.
-fn begins_word(c: char) -> bool
-    ensures { result ≡ begins_word c }
+/// The reading of a text that ends at this offset.
+pub(crate) fn ended(alloc: Global, reader: Reader, at: u64) -> Result<Tree, TreeError>
+    ensures { Gives result (ended at reader) }
 {
-    c.is_ascii_digit() || c == '_' || is_xid_start(c)
+    let Reader { mode, progress } = reader;
+    match mode {
+        Mode::Word(start, word) => {
+            finished(with_word(alloc, progress, start, word.as_slice())?, at)
+        }
+        _ => finished(progress, at),
+    }
 }
 
 /// A character at this offset that belongs to nothing before it.
@@ -86,45 +117,16 @@ fn marked(alloc: Global, progress: Progress, at: u64, c: char) -> Result<Progres
     }
 }
 
-/// The reading with one character more, which stands at this offset.
-pub(crate) fn stepped(alloc: Global, reader: Reader, at: u64, c: char) -> Result<Reader, TreeError>
-    ensures { Gives result (stepped at reader c) }
+/// A space, a tab, a newline or a carriage return.
+fn is_blank(c: char) -> bool
+    ensures { result ≡ is_blank c }
 {
-    let Reader { mode, progress } = reader;
-    match mode {
-        Mode::Between => begun(alloc, progress, at, c),
-        Mode::Comment => Ok(Reader {
-            mode: if c == '\n' {
-                Mode::Between
-            } else {
-                Mode::Comment
-            },
-            progress,
-        }),
-        Mode::Word(start, word) => {
-            let mut word = word;
-            if is_xid_continue(c) {
-                word.push(c)?;
-                return Ok(Reader {
-                    mode: Mode::Word(start, word),
-                    progress,
-                });
-            }
-            let progress = with_word(alloc, progress, start, word.as_slice())?;
-            begun(alloc, progress, at, c)
-        }
-    }
+    matches!(c, ' ' | '\t' | '\n' | '\r')
 }
 
-/// The reading of a text that ends at this offset.
-pub(crate) fn ended(alloc: Global, reader: Reader, at: u64) -> Result<Tree, TreeError>
-    ensures { Gives result (ended at reader) }
+/// A digit, `_` or a letter.
+fn begins_word(c: char) -> bool
+    ensures { result ≡ begins_word c }
 {
-    let Reader { mode, progress } = reader;
-    match mode {
-        Mode::Word(start, word) => {
-            finished(with_word(alloc, progress, start, word.as_slice())?, at)
-        }
-        _ => finished(progress, at),
-    }
+    c.is_ascii_digit() || c == '_' || is_xid_start(c)
 }

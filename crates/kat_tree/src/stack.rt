@@ -1,3 +1,5 @@
+//! A stack.
+
 ghost use Rattle.std.specs.Prelude.{◌≡◌, [], ◌∷◌, length, OnOk, MatchOption};
 
 use std::alloc::{AllocError, Global};
@@ -22,6 +24,7 @@ impl<T> Model for Stack<T> {
 }
 
 impl<T> Stack<T> {
+    /// Nothing yet.
     pub(crate) fn new(alloc: Global) -> Stack<T>
         ensures { result ≡ [] }
     {
@@ -30,20 +33,24 @@ impl<T> Stack<T> {
         }
     }
 
+    /// How many items there are.
     pub(crate) fn len(&self) -> usize
         ensures { result ≡ length self.now }
     {
         self.items.len()
     }
 
+    /// Takes the top away.
     pub(crate) fn pop(&mut self) -> Option<T>
-        ensures { MatchOption result ((self.old ≡ []) × (self.new ≡ [])) (λ top. self.old ≡ top ∷ self.new) }
+        ensures { MatchOption result
+            ((self.old ≡ []) × (self.new ≡ [])) (λ top. self.old ≡ top ∷ self.new) }
     {
         self.items.pop()
     }
 }
 
 impl<T: Drop> Stack<T> {
+    /// Puts one more on top.
     pub(crate) fn push(&mut self, top: T) -> Result<(), AllocError>
         ensures { OnOk result (self.new ≡ top ∷ self.old) }
     {

@@ -1,3 +1,5 @@
+//! Texts with their trees, and texts with their faults.
+
 use super::*;
 use std::alloc::{AllocError, Global};
 use std::test::Fail;

@@ -1,3 +1,5 @@
+//! Trees.
+
 use kat_text::Text;
 use sqlite_items::Items;
 

@@ -1,3 +1,5 @@
+//! The tokens of words.
+
 ghost use Rattle.std.specs.Prelude.{◌≡◌, ◌++◌, IfOk, OnOk, encode_utf8_all};
 ghost use Rattle.std.specs.String.{string_bytes};
 ghost use Rattle.kat_tree.specs.Machine.{word_token};
@@ -6,17 +8,6 @@ use crate::number::word_number;
 use crate::tree::Token;
 use kat_text::Text;
 use std::alloc::{AllocError, Global};
-
-/// The characters as a text.
-fn text_of(alloc: Global, word: &[char]) -> Result<Text, AllocError>
-    ensures { IfOk result (λ text. text ≡ encode_utf8_all word.now) }
-{
-    let mut text = String::new(alloc);
-    for c in word {
-        text.push(*c)?;
-    }
-    Ok(Text::from_string(text))
-}
 
 /// The token that a whole word spells: a number if it begins with a digit, else a name.
 #[tactic(auto, unfolding(crate::specs::Machine::word_token))]
@@ -30,4 +21,15 @@ pub(crate) fn word_token(alloc: Global, word: &[char]) -> Result<Option<Token>, 
         },
         _ => Ok(Some(Token::Name(text_of(alloc, word)?))),
     }
+}
+
+/// The characters as a text.
+fn text_of(alloc: Global, word: &[char]) -> Result<Text, AllocError>
+    ensures { IfOk result (λ text. text ≡ encode_utf8_all word.now) }
+{
+    let mut text = String::new(alloc);
+    for c in word {
+        text.push(*c)?;
+    }
+    Ok(Text::from_string(text))
 }

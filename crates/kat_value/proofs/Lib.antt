@@ -1,3 +1,5 @@
 pub mod EqualityLemmas
 pub mod NumberLemmas
+pub mod TypeLawLemmas
 pub mod TypingLemmas
+pub mod WordLemmas

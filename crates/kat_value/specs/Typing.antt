@@ -1,5 +1,5 @@
 -- Which values are of which types.
-use Rattle.std.specs.Prelude.{ℕ, Bool, true, false, ◌==◌, ◌&&◌, ◌^◌, nat_lt, List, [], ◌∷◌, length, map, slice_get, Option, Some, None, IsTrue}
+use Rattle.std.specs.Prelude.{ℕ, Bool, true, false, ◌==◌, ◌&&◌, nat_lt, List, [], ◌∷◌, length, map, slice_get, Option, Some, None, IsTrue}
 use Rattle.kat_value.specs.declared.types.Field.{Field}
 use Rattle.kat_value.specs.declared.types.Ty.{Ty}
 use Rattle.kat_value.specs.declared.types.Ty.TheVariants.{Unit as unit, Bool as bool, Bits as bits, Enum as enum, Union as union, Rec as rec}
@@ -7,6 +7,7 @@ use Rattle.kat_value.specs.declared.types.TypeDecl.{TypeDecl}
 use Rattle.kat_value.specs.declared.types.TypeDecl.TheVariants.{Enum as EnumDecl, Union as UnionDecl, Rec as RecDecl}
 use Rattle.kat_value.specs.declared.value.Value.{Value, fold-Value}
 use Rattle.kat_value.specs.declared.value.Value.TheOpen.{Value-F, Unit as UnitValue, Bool as Truth, Bits, Member, Made, Rec}
+use Rattle.kat_value.specs.Operations.{is_number}
 
 -- how many members a declaration has, 0 where it is no enum
 abbrev pub members_in : Option TypeDecl → ℕ
@@ -62,7 +63,7 @@ pass_record tests None = false
 abbrev pub layer_has_type : List TypeDecl → Value-F (Ty → Bool) → Ty → Bool
 layer_has_type types UnitValue unit = true
 layer_has_type types (Truth b) bool = true
-layer_has_type types (Bits w n) (bits v) = (w == v) && nat_lt n (2 ^ w)
+layer_has_type types (Bits w n) (bits v) = (w == v) && is_number w n
 layer_has_type types (Member t index) (enum u) = (t == u) && nat_lt index (member_count types t)
 layer_has_type types (Made t ctor test) (union u) = (t == u) && passes_ctor test (ctor_at types t ctor)
 layer_has_type types (Rec t tests) (rec u) = (t == u) && pass_record tests (fields_at types t)

@@ -1,9 +1,11 @@
-// The operations on bits, on machine words.
+//! The operations on bits, on machine words.
 
 ghost use Rattle.std.specs.Prelude.{◌≡◌, ◌+◌, ◌-◌, ◌*◌, ◌/◌, ◌%◌, ◌^◌, ◌<◌, ◌≤◌, ℕ, min, nat_lt, if◌then◌else◌};
-ghost use Rattle.kat_value.specs.Numbers.{IsWidth, IsNumber, signed, sign_extended, number_of_op, CanApply, width_of_op};
+ghost use Rattle.kat_value.specs.Numbers.{IsNumber, signed, sign_extended, number_of_op, CanApply, width_of_op};
+ghost use Rattle.kat_value.specs.Widths.{IsWidth, widest};
 
 use crate::op::Op;
+use crate::width::WIDEST;
 
 /// The number that an operation from `Eq` to `Sext` gives for the numbers `a` and `b` of `width` bits, 1 to 64.
 ///
@@ -13,7 +15,8 @@ pub fn apply(op: Op, width: u32, a: u64, b: u64) -> u64
     requires { CanApply op width a b }
     ensures value { result ≡ number_of_op op width a b }
     ensures within { result < 2 ^ width_of_op op width }
-    ensures joined { op ≡ Op.Cat → (v : ℕ) → a < 2 ^ v → result < 2 ^ (v + width) }
+    ensures joined { op ≡ Op.Cat → (v : ℕ) → a < 2 ^ v →
+        result < 2 ^ (v + width) }
 {
     match op {
         Op::Eq => u64::from(a == b),
@@ -44,7 +47,7 @@ fn ones(width: u32) -> u64
     requires { IsWidth width }
     ensures { result + 1 ≡ 2 ^ width }
 {
-    u64::MAX >> (64 - width)
+    u64::MAX >> (WIDEST - width)
 }
 
 /// The weight of the top bit of that many.
@@ -66,7 +69,7 @@ fn low_bits(width: u32, word: u64) -> u64
 /// The bits of a number from `lo` to `hi`, both included.
 fn bits_between(hi: u64, lo: u64, number: u64) -> u64
     requires ordered { lo ≤ hi }
-    requires high { hi < 64 }
+    requires high { hi < widest }
     ensures { result ≡ (number / 2 ^ lo) % 2 ^ (hi - lo + 1) }
 {
     low_bits((hi - lo + 1) as u32, number >> lo)
@@ -88,7 +91,7 @@ fn signed(width: u32, number: u64) -> i64
 fn sign_extended(width: u32, wide: u64, number: u64) -> u64
     requires number { IsNumber width number }
     requires longer { width ≤ wide }
-    requires high { wide ≤ 64 }
+    requires high { wide ≤ widest }
     ensures { result ≡ sign_extended width wide number }
 {
     if number < top_bit(width) {

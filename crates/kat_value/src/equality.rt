@@ -1,7 +1,7 @@
-// Equality of values, which is equality at any one type.
+//! Equality of values, which is equality at any one type.
 
 ghost use Rattle.std.specs.Prelude.{◌≡◌, ◌↔◌, IsTrue};
-ghost use Rattle.kat_value.specs.Equality.{value_eq, values_eq, TestsEquality};
+ghost use Rattle.kat_value.specs.Equality.{value_eq, values_eq};
 
 use crate::value::{Value, Values};
 
@@ -49,6 +49,7 @@ pub fn same_value(a: &Value, b: &Value) -> bool
     }
 }
 
+/// The same of lists of values.
 #[cycle(equality)]
 fn same_values(a: &Values, b: &Values) -> bool
     ensures same { IsTrue result ↔ (a.now ≡ b.now) }
@@ -64,10 +65,3 @@ fn same_values(a: &Values, b: &Values) -> bool
     }
     true
 }
-
-/// The test that computes whether two values are equal holds of equal values, and of no others. The function does nothing:
-/// its contract is the law.
-#[tactic(auto, using(crate::proofs::EqualityLemmas::value_eq_is))]
-pub fn equality_is_tested()
-    ensures { TestsEquality }
-{}

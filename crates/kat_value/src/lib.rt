@@ -1,23 +1,39 @@
-//! The types and values of a machine, and the operations on them as arithmetic on whole numbers. A declared type
-//! is known by its position in the table of types; a value is plain data, and no value holds a reference.
+//! The types and values of a machine, and the operations on them as arithmetic on whole numbers. A
+//! declared type is known by its position in the table of types; a value is plain data, and no value
+//! holds a reference. What is said of an operation stands here once: its word, its numbers, how many
+//! arguments it takes, their types, and the type that it gives.
 #![tactic(auto)]
 
 mod arithmetic;
 mod copy;
 mod equality;
+mod laws;
 mod op;
+mod op_types;
 mod operate;
+mod signature;
 #[cfg(test)]
 mod tests;
 mod types;
 mod typing;
 mod value;
+mod width;
+mod words;
 
 pub use arithmetic::apply;
 pub use copy::{copy_value, copy_values};
-pub use equality::{equality_is_tested, same_value};
+pub use equality::same_value;
+pub use laws::{equality_is_tested, types_of_values, words_of_operations};
 pub use op::Op;
+pub use op_types::{
+    accepts, agree, fixed_behind, same_type, takes, type_given, type_of_op, widths_fit,
+};
 pub use operate::operate_on_two;
+pub use signature::{Signature, signature_of};
 pub use types::{Field, Ty, TypeDecl, Types};
-pub use typing::{fits, is_literal, is_number};
+pub use typing::fits;
 pub use value::{Value, Values};
+pub use width::{WIDEST, is_literal, is_number, is_width};
+pub use words::{
+    OpNumbers, arity_of, is_written, numbers_of_op, op_of_word, with_numbers, word_of_op,
+};

@@ -1,4 +1,4 @@
-// The operations of expressions and terms.
+//! The operations of expressions and terms.
 
 /// An operation, in the order of the language's list. Those from `Ult` to `Sar` take bits of equal widths.
 #[derive(Clone, Copy, Debug, PartialEq, Eq, Drop)]

@@ -1,4 +1,4 @@
-// The operations on values.
+//! The operations on values.
 
 ghost use Rattle.std.specs.Prelude.{◌≡◌, ◌∷◌, [], ℕ, IfSome};
 ghost use Rattle.std.specs.Option.{option_map};
@@ -9,8 +9,8 @@ ghost use Rattle.kat_value.specs.declared.value.Value.{Value as AnyValue};
 use crate::arithmetic::apply;
 use crate::equality::same_value;
 use crate::op::Op;
-use crate::typing::is_number;
 use crate::value::Value;
+use crate::width::is_number;
 
 /// What `Eq`, `Ult` or `Add` gives on two values; none where they are not of types that it takes, and of every other
 /// operation, which has no meaning on values yet. It takes no memory.

@@ -1,4 +1,4 @@
-// Values from the meaning of the operations, and a value with all kinds of parts.
+//! Values from the meaning of the operations, and a value with all kinds of parts.
 
 use super::*;
 use kat_text::Text;

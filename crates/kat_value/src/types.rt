@@ -1,4 +1,4 @@
-// The types, and the table of those that a specification declares.
+//! The types, and the table of those that a specification declares.
 
 use kat_text::Text;
 use sqlite_items::Items;

@@ -1,12 +1,12 @@
-// Which values are of which types.
+//! Which values are of which types.
 
-ghost use Rattle.std.specs.Prelude.{◌≡◌, ◌↔◌, ◌≤◌, ◌^◌, IsTrue, nat_lt};
+ghost use Rattle.std.specs.Prelude.{◌≡◌, ◌↔◌, IsTrue};
 ghost use Rattle.std.specs.Option.{option_copied};
-ghost use Rattle.kat_value.specs.Operations.{is_number};
 ghost use Rattle.kat_value.specs.Typing.{member_count, ctor_at, fields_at, has_type, have_types, HasType};
 
 use crate::types::{Field, Ty, TypeDecl, Types};
 use crate::value::{Value, Values};
+use crate::width::is_number;
 use sqlite_items::Items;
 
 /// Whether a value is of a type, with the declared types of this table. It takes no memory.
@@ -19,7 +19,7 @@ pub fn fits(types: &Types, ty: &Ty, value: &Value) -> bool
         (Value::Unit, Ty::Unit) => true,
         (Value::Bool(_), Ty::Bool) => true,
         (Value::Bits { width, number }, Ty::Bits(wanted)) => {
-            *width == *wanted && fits_width(*width, *number)
+            *width == *wanted && is_number(*width, *number)
         }
         (Value::Member { of, index }, Ty::Enum(wanted)) => {
             *of == *wanted && (*index as usize) < member_count(types, *of)
@@ -56,28 +56,6 @@ fn all_fit(types: &Types, declared: &Items<Field>, values: &Values) -> bool
         }
     }
     true
-}
-
-/// Whether a number is one of that many bits.
-fn fits_width(width: u32, number: u64) -> bool
-    ensures { result ≡ nat_lt number (2 ^ width) }
-{
-    number.unbounded_shr(width) == 0
-}
-
-/// Whether this is a width, and the number one of that many bits.
-pub fn is_number(width: u32, number: u64) -> bool
-    ensures { result ≡ is_number width number }
-{
-    1 <= width && width <= 64 && fits_width(width, number)
-}
-
-/// The same of a width that a text tells, which may be any number.
-pub fn is_literal(width: u64, number: u64) -> bool
-    ensures value { result ≡ is_number width number }
-    ensures width { IsTrue result → width ≤ 64 }
-{
-    width <= 64 && is_number(width as u32, number)
 }
 
 /// How many members the enum at this position has; 0 where none is there.

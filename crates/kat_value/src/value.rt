@@ -1,4 +1,4 @@
-// The values of the types.
+//! The values of the types.
 
 use sqlite_items::{Boxed, Items};
 

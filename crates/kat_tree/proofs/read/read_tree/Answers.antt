@@ -1,7 +1,7 @@
 use Rattle.std.proofs.Common.{subst, Ok, Err, List, ℕ}
 use Rattle.std.specs.Str.{chars, valid_up_to}
 use Rattle.kat_tree.specs.Machine.{Gives, run, start}
-use Rattle.kat_tree.proofs.Owed.{gives_ok, gives_fault, gives_owed, no_text_owed}
+use Rattle.kat_tree.proofs.Outcomes.{gives_ok, gives_fault, gives_owed, no_text_owed}
 use Rattle.kat_tree.proofs.read.read_tree.Goals as goal
 
 pub returns-in-Ok-clause-found : goal.returns-in-Ok-clause-found

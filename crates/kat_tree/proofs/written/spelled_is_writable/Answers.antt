@@ -1,5 +1,0 @@
-use Rattle.kat_tree.proofs.Leaves.{writable}
-use Rattle.kat_tree.proofs.written.spelled_is_writable.Goals as goal
-
-pub returns : goal.returns
-returns c = writable

@@ -1,5 +1,0 @@
-use Rattle.kat_tree.proofs.Starts.{fits_text}
-use Rattle.kat_tree.proofs.written.trees_fit_their_text.Goals as goal
-
-pub returns : goal.returns
-returns c = fits_text

@@ -1,5 +1,0 @@
-use Rattle.kat_tree.proofs.Writing.{spelled}
-use Rattle.kat_tree.proofs.written.written_is_spelled.Goals as goal
-
-pub returns : goal.returns
-returns c = spelled
