@@ -13,7 +13,7 @@ use Rattle.kat_ast.specs.declared.decl.Param.{Param}
 use Rattle.kat_ast.specs.declared.decl.Phase.{Phase}
 use Rattle.kat_ast.specs.declared.decl.When.{When}
 use Rattle.kat_ast.specs.declared.decl.DeclForm.{DeclForm}
-use Rattle.kat_ast.specs.Written.{word, number, tree_of_type, tree_of_param, tree_of_expr, tree_of_case_arm, tree_of_match_arm, tree_of_stm, tree_of_assertion, tree_of_phase, tree_of_when, tree_of_decl}
+use Rattle.kat_ast.specs.Written.{word, number, tree_of_type, tree_of_param, tree_of_expr, tree_of_case_arm, tree_of_match_arm, tree_of_stm, tree_of_assertion, holding, tree_of_phase, tree_of_when, tree_of_decl}
 use Rattle.kat_ast.specs.Formed.{every, is_name, is_formed_type, is_formed_param, is_formed_expr, is_formed_case_arm, is_formed_match_arm, is_formed_stm, is_formed_assertion, is_formed_phase, is_formed_when, is_formed_decl}
 
 -- a name
@@ -40,6 +40,10 @@ IsStm tree s = (tree_of_stm s ≡ tree) × (is_formed_stm s ≡ true)
 abbrev pub IsAssertion : Tree → Assertion → Type 0
 IsAssertion tree a = (tree_of_assertion a ≡ tree) × (is_formed_assertion a ≡ true)
 
+-- an assertion in a list of this word
+abbrev pub IsHolding : List ℕ → Tree → Assertion → Type 0
+IsHolding head tree a = (holding head a ≡ tree) × (is_formed_assertion a ≡ true)
+
 -- a phase
 abbrev pub IsPhase : Tree → Phase → Type 0
 IsPhase tree p = (tree_of_phase p ≡ tree) × (is_formed_phase p ≡ true)
@@ -54,7 +58,7 @@ IsDeclForm tree d = (tree_of_decl d ≡ tree) × (is_formed_decl d ≡ true)
 
 -- trees side by side are these things side by side
 abbrev pub AreForms : {A : Type 0} → (A → Tree) → (A → Bool) → List Tree → List A → Type 0
-AreForms written formed trees as = (map written as ≡ trees) × (every (map formed as) ≡ true)
+AreForms written formed trees made = (map written made ≡ trees) × (every (map formed made) ≡ true)
 
 -- names
 abbrev pub AreNames : List Tree → List (List ℕ) → Type 0

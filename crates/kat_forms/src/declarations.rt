@@ -5,14 +5,14 @@ ghost use Rattle.std.specs.List.{AllByRecursion};
 ghost use Rattle.kat_ast.specs.Formed.{every, is_formed_stm};
 ghost use Rattle.kat_ast.specs.Written.{word, form, word_of_register_kind, word_of_cells_kind, tree_of_stm};
 ghost use Rattle.kat_forms.specs.Parts.{FitsSort, HasParts};
-ghost use Rattle.kat_forms.specs.Forms.{IsPhase, IsWhen, IsDeclForm, AreWhens};
+ghost use Rattle.kat_forms.specs.Forms.{IsHolding, IsPhase, IsWhen, IsDeclForm, AreWhens};
 
 use crate::assertions::assertion_in;
 use crate::atoms::{name_in, number_in, only_name, part_of, split, type_in};
 use crate::expressions::expr_in;
 use crate::params::{fields_in, members_in, numbers_in, params_in};
 use crate::statements::{stm_in, stms_in};
-use kat_ast::{Block, CellsKind, DeclForm, Phase, RegisterKind, Stm, When};
+use kat_ast::{Assertion, Block, CellsKind, DeclForm, Phase, RegisterKind, Stm, When};
 use kat_shapes::Sort;
 use kat_tree::{Token, Tree};
 use sqlite_items::Items;
@@ -207,12 +207,13 @@ fn contract_in(alloc: Global, parts: &[Tree]) -> Result<DeclForm, AllocError>
     let [function, names, pre, res, post] = parts else {
         unreachable!();
     };
+    let (pre, post) = conditions_in(alloc, pre, post)?;
     Ok(DeclForm::Contract {
         function: name_in(function)?,
         names: params_in(alloc, names)?,
-        pre: assertion_in(alloc, part_of(pre))?,
+        pre,
         result: name_in(part_of(res))?,
-        post: assertion_in(alloc, part_of(post))?,
+        post,
     })
 }
 
@@ -224,12 +225,13 @@ fn lemma_in(alloc: Global, parts: &[Tree]) -> Result<DeclForm, AllocError>
     let [name, params, names, pre, post, steps] = parts else {
         unreachable!();
     };
+    let (pre, post) = conditions_in(alloc, pre, post)?;
     Ok(DeclForm::Lemma {
         name: name_in(name)?,
         params: params_in(alloc, params)?,
         names: params_in(alloc, names)?,
-        pre: assertion_in(alloc, part_of(pre))?,
-        post: assertion_in(alloc, part_of(post))?,
+        pre,
+        post,
         steps: steps_in(alloc, steps)?,
     })
 }
@@ -289,6 +291,20 @@ fn boot_in(parts: &[Tree]) -> Result<DeclForm, AllocError>
     ensures { IfOk result (λ d. IsDeclForm (form (codes "boot") parts.now) d) }
 {
     Ok(DeclForm::Boot(only_name(parts)?))
+}
+
+/// `(pre A)` and `(post A)`
+fn conditions_in(
+    alloc: Global,
+    pre: &Tree,
+    post: &Tree,
+) -> Result<(Assertion, Assertion), AllocError>
+    requires pre { FitsSort Sort.Pre pre.now }
+    requires post { FitsSort Sort.Post post.now }
+    ensures { IfOk result (λ r. IsHolding (codes "pre") pre.now r.0 × IsHolding (codes "post") post.now r.1) }
+{
+    let pre = assertion_in(alloc, part_of(pre))?;
+    Ok((pre, assertion_in(alloc, part_of(post))?))
 }
 
 /// The place of a register.
