@@ -4,13 +4,15 @@ use Rattle.std.specs.Prelude.{codes}
 use Rattle.std.proofs.lemmas.Bool.{and_parts}
 use Rattle.kat_tree.specs.declared.tree.Tree.{Tree}
 use Rattle.kat_tree.specs.declared.tree.Tree.TheVariants as tree
-use Rattle.kat_ast.specs.declared.decl.Param.{Param}
+use Rattle.kat_ast.specs.declared.type_name.Param.{Param}
 use Rattle.kat_ast.specs.declared.assertion.Assertion.{Assertion}
 use Rattle.kat_ast.specs.declared.assertion.Assertion.TheOpen.{Assertion-F, Pure, Register, Cell, Star, If, Exists, Predicate, Region}
 use Rattle.kat_ast.specs.declared.assertion.Assertion.TheViews.{roll-Assertion}
 use Rattle.kat_ast.specs.declared.assertion.Assertion.TheFolds.{map-Assertion, fold-roll-Assertion, ind-Assertion}
-use Rattle.kat_ast.specs.Written.{word, tree_of_type, tree_of_expr, assertion_tree, tree_of_assertion}
-use Rattle.kat_ast.specs.Formed.{is_name, every, is_formed_type, is_formed_expr, are_formed_exprs, assertion_formed, is_formed_assertion}
+use Rattle.kat_ast.specs.Parts.{word, is_name, every}
+use Rattle.kat_ast.specs.Types.{tree_of_type, is_formed_type}
+use Rattle.kat_ast.specs.Expressions.{tree_of_expr, is_formed_expr, are_formed_exprs}
+use Rattle.kat_ast.specs.Assertions.{assertion_tree, tree_of_assertion, assertion_formed, is_formed_assertion}
 use Rattle.kat_ast.proofs.Decoded.{decoded, assertion_by, word_back, assertion_form}
 use Rattle.kat_ast.proofs.ExprBack.{expr_back, exprs_back}
 use Rattle.kat_ast.proofs.TypeBack.{param_back}

@@ -4,14 +4,16 @@ use Rattle.std.specs.Prelude.{codes}
 use Rattle.kat_tree.specs.declared.tree.Tree.{Tree}
 use Rattle.kat_tree.specs.declared.tree.Tree.TheVariants as tree
 use Rattle.kat_tree.specs.Preorder.{count_of}
-use Rattle.kat_ast.specs.declared.decl.TypeName.{TypeName}
-use Rattle.kat_ast.specs.declared.decl.TypeName.TheVariants as t
-use Rattle.kat_ast.specs.declared.decl.Param.{Param}
+use Rattle.kat_ast.specs.declared.type_name.TypeName.{TypeName}
+use Rattle.kat_ast.specs.declared.type_name.TypeName.TheVariants as t
+use Rattle.kat_ast.specs.declared.type_name.Param.{Param}
 use Rattle.kat_ast.specs.declared.assertion.Assertion.{Assertion}
 use Rattle.kat_ast.specs.declared.assertion.Assertion.TheOpen.{Assertion-F, Pure, Register, Cell, Star, If, Exists, Predicate, Region}
 use Rattle.kat_ast.specs.declared.assertion.Assertion.TheFolds.{map-Assertion, fold-roll-Assertion, ind-Assertion}
-use Rattle.kat_ast.specs.Written.{word, number, tree_of_type, tree_of_param, tree_of_params, tree_of_expr, assertion_tree, tree_of_assertion}
-use Rattle.kat_ast.specs.Trees.{trees_of_type, trees_of_param, trees_of_params, assertion_trees, trees_of_assertion}
+use Rattle.kat_ast.specs.Parts.{word, number}
+use Rattle.kat_ast.specs.Types.{tree_of_type, tree_of_param, tree_of_params, trees_of_type, trees_of_param, trees_of_params}
+use Rattle.kat_ast.specs.Expressions.{tree_of_expr}
+use Rattle.kat_ast.specs.Assertions.{assertion_tree, tree_of_assertion, assertion_trees, trees_of_assertion}
 use Rattle.kat_ast.proofs.Counting.{sum_by-map, count_of-List, of_word, of_number, of_form, of_one, of_two, of_three, of_more, of_pair}
 use Rattle.kat_ast.proofs.ExprCount.{expr_counted, exprs_counted}
 

@@ -10,7 +10,7 @@ use Rattle.kat_tree.specs.declared.tree.Tree.TheVariants.{rolls-Atom, rolls-List
 use Rattle.kat_tree.specs.declared.tree.Tree.TheOpen.{Tree-F}
 use Rattle.kat_tree.specs.declared.tree.Tree.TheFolds.{fold-roll-Tree}
 use Rattle.kat_tree.specs.Preorder.{count_in, count_of}
-use Rattle.kat_ast.specs.Written.{word, number, form}
+use Rattle.kat_ast.specs.Parts.{word, number, form}
 
 sum_from : (a : ℕ) (ns : List ℕ) → fold (λ x y. x + y) a ns ≡ a + fold (λ x y. x + y) 0 ns
 sum_from a [] = omega arith

@@ -16,8 +16,12 @@ use Rattle.kat_ast.specs.declared.decl.Phase.TheVariants as p
 use Rattle.kat_ast.specs.declared.decl.When.{When}
 use Rattle.kat_ast.specs.declared.decl.DeclForm.{DeclForm}
 use Rattle.kat_ast.specs.declared.decl.DeclForm.TheVariants as d
-use Rattle.kat_ast.specs.Written.{word, number, form, tree_of_type, tree_of_params, tree_of_expr, tree_of_stm, tree_of_assertion, tree_of_phase, tree_of_when, word_of_register_kind, word_of_cells_kind, holding, tree_of_decl}
-use Rattle.kat_ast.specs.Formed.{is_name, every, is_some, is_formed_type, are_formed_params, is_formed_expr, is_formed_stm, is_formed_assertion, is_formed_phase, is_formed_when, is_formed_decl}
+use Rattle.kat_ast.specs.Parts.{word, number, form, is_name, every, is_some}
+use Rattle.kat_ast.specs.Types.{tree_of_type, tree_of_params, is_formed_type, are_formed_params}
+use Rattle.kat_ast.specs.Expressions.{tree_of_expr, is_formed_expr}
+use Rattle.kat_ast.specs.Statements.{tree_of_stm, is_formed_stm}
+use Rattle.kat_ast.specs.Assertions.{tree_of_assertion, is_formed_assertion}
+use Rattle.kat_ast.specs.Declarations.{tree_of_phase, tree_of_when, word_of_register_kind, word_of_cells_kind, holding, tree_of_decl, is_formed_phase, is_formed_when, is_formed_decl}
 use Rattle.kat_ast.proofs.Decoded.{Decoded, decoded, decoded-List, decoded-form, register_kind_by, cells_kind_by, whens, last, decl_by, phase_named, word_back, number_back, named_phase, decl_form}
 use Rattle.kat_ast.proofs.ExprBack.{expr_back}
 use Rattle.kat_ast.proofs.TypeBack.{type_back, params_back, words_back, numbers_back}

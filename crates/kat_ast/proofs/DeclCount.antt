@@ -9,8 +9,12 @@ use Rattle.kat_ast.specs.declared.decl.Phase.TheVariants as p
 use Rattle.kat_ast.specs.declared.decl.When.{When}
 use Rattle.kat_ast.specs.declared.decl.DeclForm.{DeclForm}
 use Rattle.kat_ast.specs.declared.decl.DeclForm.TheVariants as d
-use Rattle.kat_ast.specs.Written.{word, number, form, tree_of_type, tree_of_params, tree_of_expr, tree_of_stm, tree_of_assertion, tree_of_phase, tree_of_when, word_of_register_kind, word_of_cells_kind, holding, tree_of_decl}
-use Rattle.kat_ast.specs.Trees.{trees_of_phase, trees_of_when, trees_of_decl}
+use Rattle.kat_ast.specs.Parts.{word, number, form}
+use Rattle.kat_ast.specs.Types.{tree_of_type, tree_of_params}
+use Rattle.kat_ast.specs.Expressions.{tree_of_expr}
+use Rattle.kat_ast.specs.Statements.{tree_of_stm}
+use Rattle.kat_ast.specs.Assertions.{tree_of_assertion}
+use Rattle.kat_ast.specs.Declarations.{tree_of_phase, tree_of_when, word_of_register_kind, word_of_cells_kind, holding, tree_of_decl, trees_of_phase, trees_of_when, trees_of_decl}
 use Rattle.kat_ast.proofs.Counting.{sum-cons, sum_by-map, count_of-List, of_word, of_number, of_words, of_numbers, of_form, of_one, of_two, of_three, of_four, of_more}
 use Rattle.kat_ast.proofs.ExprCount.{expr_counted}
 use Rattle.kat_ast.proofs.StmCount.{stm_counted, stms_counted}

@@ -20,9 +20,9 @@ use Rattle.kat_ast.specs.declared.stm.Stm.TheViews.{roll-Stm}
 use Rattle.kat_ast.specs.declared.assertion.Assertion.{Assertion}
 use Rattle.kat_ast.specs.declared.assertion.Assertion.TheOpen as a
 use Rattle.kat_ast.specs.declared.assertion.Assertion.TheViews.{roll-Assertion}
-use Rattle.kat_ast.specs.declared.decl.TypeName.{TypeName}
-use Rattle.kat_ast.specs.declared.decl.TypeName.TheVariants as t
-use Rattle.kat_ast.specs.declared.decl.Param.{Param}
+use Rattle.kat_ast.specs.declared.type_name.TypeName.{TypeName}
+use Rattle.kat_ast.specs.declared.type_name.TypeName.TheVariants as t
+use Rattle.kat_ast.specs.declared.type_name.Param.{Param}
 use Rattle.kat_ast.specs.declared.decl.RegisterKind.{RegisterKind}
 use Rattle.kat_ast.specs.declared.decl.RegisterKind.TheVariants as r
 use Rattle.kat_ast.specs.declared.decl.CellsKind.{CellsKind}
@@ -32,7 +32,7 @@ use Rattle.kat_ast.specs.declared.decl.Phase.TheVariants as p
 use Rattle.kat_ast.specs.declared.decl.When.{When}
 use Rattle.kat_ast.specs.declared.decl.DeclForm.{DeclForm}
 use Rattle.kat_ast.specs.declared.decl.DeclForm.TheVariants as d
-use Rattle.kat_ast.specs.Written.{word, number, form}
+use Rattle.kat_ast.specs.Parts.{word, number, form}
 
 -- a tree as each thing that it may be
 pub record Decoded : Type 0 where

@@ -9,8 +9,9 @@ use Rattle.kat_ast.specs.declared.expr.Expr.{Expr}
 use Rattle.kat_ast.specs.declared.expr.Expr.TheOpen.{Expr-F, Name, Unit, Truth, Bits, Of, Make, Rec, Register, Kept, KeptCell, Before, After, BeforeCell, AfterCell, Apply, Get}
 use Rattle.kat_ast.specs.declared.expr.Expr.TheViews.{roll-Expr}
 use Rattle.kat_ast.specs.declared.expr.Expr.TheFolds.{map-Expr, fold-roll-Expr, ind-Expr}
-use Rattle.kat_ast.specs.Written.{word, number, form, word_of_op, numbers_before, expr_tree, tree_of_expr}
-use Rattle.kat_ast.specs.Formed.{is_name, every, is_written, arity_of, expr_formed, is_formed_expr, are_formed_exprs}
+use Rattle.kat_value.specs.Words.{word_of_op, is_written, arity_of}
+use Rattle.kat_ast.specs.Parts.{word, number, form, is_name, every}
+use Rattle.kat_ast.specs.Expressions.{numbers_before, expr_tree, tree_of_expr, expr_formed, is_formed_expr, are_formed_exprs}
 use Rattle.kat_ast.proofs.Decoded.{decoded, expr_by, expr_named, word_back, number_back, named_expr, expr_form}
 
 -- a test that is denied fails

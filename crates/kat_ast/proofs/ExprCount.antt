@@ -8,8 +8,9 @@ use Rattle.kat_value.specs.declared.op.Op.TheVariants as op
 use Rattle.kat_ast.specs.declared.expr.Expr.{Expr}
 use Rattle.kat_ast.specs.declared.expr.Expr.TheOpen.{Expr-F, Name, Unit, Truth, Bits, Of, Make, Rec, Register, Kept, KeptCell, Before, After, BeforeCell, AfterCell, Apply, Get}
 use Rattle.kat_ast.specs.declared.expr.Expr.TheFolds.{map-Expr, fold-roll-Expr, ind-Expr}
-use Rattle.kat_ast.specs.Written.{word, number, word_of_op, numbers_before, expr_tree, tree_of_expr}
-use Rattle.kat_ast.specs.Trees.{numbers_of_op, expr_trees, trees_of_expr, trees_of_exprs}
+use Rattle.kat_value.specs.Words.{word_of_op, numbers_of_op}
+use Rattle.kat_ast.specs.Parts.{word, number}
+use Rattle.kat_ast.specs.Expressions.{numbers_before, expr_tree, tree_of_expr, expr_trees, trees_of_expr, trees_of_exprs}
 use Rattle.kat_ast.proofs.Counting.{sum-cons, sum_by-map, of_word, of_number, of_form, of_one, of_two, of_three, of_more}
 
 abbrev IsCounted : Expr → Type 0

@@ -5,12 +5,16 @@ use Rattle.std.specs.List.{AllByRecursion}
 use Rattle.kat_ast.specs.declared.expr.Expr.{Expr}
 use Rattle.kat_ast.specs.declared.stm.Stm.{Stm}
 use Rattle.kat_ast.specs.declared.assertion.Assertion.{Assertion}
-use Rattle.kat_ast.specs.declared.decl.TypeName.{TypeName}
+use Rattle.kat_ast.specs.declared.type_name.TypeName.{TypeName}
 use Rattle.kat_ast.specs.declared.decl.DeclForm.{DeclForm}
 use Rattle.kat_ast.specs.Spec.{Spec}
-use Rattle.kat_ast.specs.Written.{number, tree_of_type, tree_of_expr, tree_of_stm, tree_of_assertion, tree_of_decl}
-use Rattle.kat_ast.specs.Formed.{is_formed_type, is_formed_expr, is_formed_stm, is_formed_assertion, is_formed_decl}
-use Rattle.kat_ast.specs.Describes.{tree_of_spec}
+use Rattle.kat_ast.specs.Parts.{number}
+use Rattle.kat_ast.specs.Types.{tree_of_type, is_formed_type}
+use Rattle.kat_ast.specs.Expressions.{tree_of_expr, is_formed_expr}
+use Rattle.kat_ast.specs.Statements.{tree_of_stm, is_formed_stm}
+use Rattle.kat_ast.specs.Assertions.{tree_of_assertion, is_formed_assertion}
+use Rattle.kat_ast.specs.Declarations.{tree_of_decl, is_formed_decl}
+use Rattle.kat_ast.specs.Specifications.{tree_of_spec}
 use Rattle.kat_ast.proofs.Decoded.{decoded, decoded-form, number_back}
 use Rattle.kat_ast.proofs.ExprBack.{expr_back}
 use Rattle.kat_ast.proofs.TypeBack.{type_back}

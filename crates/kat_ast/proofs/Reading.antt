@@ -5,9 +5,8 @@ use Rattle.kat_tree.specs.declared.tree.Tree.{Tree}
 use Rattle.kat_tree.specs.Spelling.{Spells}
 use Rattle.kat_ast.specs.declared.decl.DeclForm.{DeclForm}
 use Rattle.kat_ast.specs.Spec.{Spec}
-use Rattle.kat_ast.specs.Formed.{is_formed_decl}
-use Rattle.kat_ast.specs.WellFormed.{IsDecl}
-use Rattle.kat_ast.specs.Describes.{tree_of_spec, Reads}
+use Rattle.kat_ast.specs.Declarations.{is_formed_decl, IsDecl}
+use Rattle.kat_ast.specs.Specifications.{tree_of_spec, Reads}
 
 abbrev pub AreFormed : List DeclForm → Type 0
 AreFormed decls = AllByRecursion (λ (d : DeclForm). is_formed_decl d ≡ true) decls

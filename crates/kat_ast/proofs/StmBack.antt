@@ -10,8 +10,9 @@ use Rattle.kat_ast.specs.declared.stm.Stm.TheShapes.{former-Stm-Case-1-at-2 as c
 use Rattle.kat_ast.specs.declared.stm.Stm.TheOpen.{Stm-F, Ret, Let, Seq, If, Case, Match, Read, Write, Load, Store, Call, Check, Fail, Open, Close, Lemma}
 use Rattle.kat_ast.specs.declared.stm.Stm.TheViews.{roll-Stm}
 use Rattle.kat_ast.specs.declared.stm.Stm.TheFolds.{map-Stm, fold-roll-Stm, ind-Stm}
-use Rattle.kat_ast.specs.Written.{word, tree_of_expr, tree_of_case_arm, tree_of_match_arm, stm_tree, tree_of_stm}
-use Rattle.kat_ast.specs.Formed.{is_name, every, is_some, is_formed_expr, are_formed_exprs, is_formed_case_arm, is_formed_match_arm, stm_formed, is_formed_stm}
+use Rattle.kat_ast.specs.Parts.{word, is_name, every, is_some}
+use Rattle.kat_ast.specs.Expressions.{tree_of_expr, is_formed_expr, are_formed_exprs}
+use Rattle.kat_ast.specs.Statements.{tree_of_case_arm, tree_of_match_arm, stm_tree, tree_of_stm, is_formed_case_arm, is_formed_match_arm, stm_formed, is_formed_stm}
 use Rattle.kat_ast.proofs.Decoded.{decoded, decoded-List, stm_by, word_back, stm_form}
 use Rattle.kat_ast.proofs.ExprBack.{expr_back, exprs_back}
 

@@ -10,8 +10,9 @@ use Rattle.kat_ast.specs.declared.stm.MatchArm.{MatchArm}
 use Rattle.kat_ast.specs.declared.stm.Stm.TheShapes.{former-Stm-Case-1-at-2 as case_arm, former-Stm-Match-1-at-3 as match_arm}
 use Rattle.kat_ast.specs.declared.stm.Stm.TheOpen.{Stm-F, Ret, Let, Seq, If, Case, Match, Read, Write, Load, Store, Call, Check, Fail, Open, Close, Lemma}
 use Rattle.kat_ast.specs.declared.stm.Stm.TheFolds.{map-Stm, fold-roll-Stm, ind-Stm}
-use Rattle.kat_ast.specs.Written.{word, tree_of_expr, tree_of_case_arm, tree_of_match_arm, stm_tree, tree_of_stm}
-use Rattle.kat_ast.specs.Trees.{trees_of_case_arm, trees_of_match_arm, stm_trees, trees_of_stm}
+use Rattle.kat_ast.specs.Parts.{word}
+use Rattle.kat_ast.specs.Expressions.{tree_of_expr}
+use Rattle.kat_ast.specs.Statements.{tree_of_case_arm, tree_of_match_arm, stm_tree, tree_of_stm, trees_of_case_arm, trees_of_match_arm, stm_trees, trees_of_stm}
 use Rattle.kat_ast.proofs.Counting.{sum-cons, sum_by-map, of_word, of_form, of_one, of_two, of_three, of_more, of_pair, of_triple}
 use Rattle.kat_ast.proofs.ExprCount.{expr_counted, exprs_counted}
 

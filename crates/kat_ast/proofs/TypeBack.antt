@@ -2,11 +2,11 @@
 use Rattle.std.proofs.Common.{◌≡◌, ℕ, true, not, ◌&&◌, List, [], ◌∷◌, map, ap, ◌∙◌, refl}
 use Rattle.std.specs.Prelude.{codes, bytes_eq}
 use Rattle.std.proofs.lemmas.Bool.{and_parts}
-use Rattle.kat_ast.specs.declared.decl.TypeName.{TypeName}
-use Rattle.kat_ast.specs.declared.decl.TypeName.TheVariants as t
-use Rattle.kat_ast.specs.declared.decl.Param.{Param}
-use Rattle.kat_ast.specs.Written.{word, number, tree_of_type, tree_of_param, tree_of_params}
-use Rattle.kat_ast.specs.Formed.{is_name, is_formed_type, is_formed_param, are_formed_params}
+use Rattle.kat_ast.specs.declared.type_name.TypeName.{TypeName}
+use Rattle.kat_ast.specs.declared.type_name.TypeName.TheVariants as t
+use Rattle.kat_ast.specs.declared.type_name.Param.{Param}
+use Rattle.kat_ast.specs.Parts.{word, number, is_name}
+use Rattle.kat_ast.specs.Types.{tree_of_type, tree_of_param, tree_of_params, is_formed_type, is_formed_param, are_formed_params}
 use Rattle.kat_ast.proofs.Decoded.{decoded, decoded-List, decoded-form, word_back, number_back, type_named, named_type}
 use Rattle.kat_ast.proofs.ExprBack.{denied}
 

@@ -14,9 +14,9 @@ use Rattle.kat_tree.specs.Lexeme.{joined, greatest, nesting_in, nesting}
 use Rattle.kat_tree.specs.Written.{IsNameToken, IsToken, IsWritable, tokens_in, tokens_of}
 use Rattle.kat_ast.specs.declared.decl.DeclForm.{DeclForm}
 use Rattle.kat_ast.specs.Spec.{Spec}
-use Rattle.kat_ast.specs.Written.{word, number, tree_of_decl}
-use Rattle.kat_ast.specs.WellFormed.{IsDecl, IsSpec}
-use Rattle.kat_ast.specs.Describes.{tree_of_spec}
+use Rattle.kat_ast.specs.Parts.{word, number}
+use Rattle.kat_ast.specs.Declarations.{tree_of_decl, IsDecl}
+use Rattle.kat_ast.specs.Specifications.{IsSpec, tree_of_spec}
 
 pub tokens_of-Atom : (token : Token) → tokens_of (tree.Atom token) ≡ token ∷ []
 tokens_of-Atom token = ap tokens_of (sym (rolls-Atom token)) ∙ fold-roll-Tree (List Token) tokens_in (Tree-F.Atom token)

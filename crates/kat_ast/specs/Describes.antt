@@ -4,8 +4,9 @@ use Rattle.kat_tree.specs.declared.tree.Tree.{Tree}
 use Rattle.kat_tree.specs.Spelling.{Spells}
 use Rattle.kat_tree.specs.Written.{text_of_tree}
 use Rattle.kat_ast.specs.Spec.{Spec}
-use Rattle.kat_ast.specs.Written.{number, form, tree_of_decl}
-use Rattle.kat_ast.specs.WellFormed.{IsSpec}
+use Rattle.kat_ast.specs.Parts.{number, form}
+use Rattle.kat_ast.specs.Declarations.{tree_of_decl}
+use Rattle.kat_ast.specs.Specifications.{IsSpec}
 
 -- `(spec V D ..)`
 abbrev pub tree_of_spec : Spec → Tree

@@ -14,9 +14,9 @@ use Rattle.kat_ast.specs.declared.stm.Stm.TheFolds.{fold-Stm}
 use Rattle.kat_ast.specs.declared.assertion.Assertion.{Assertion}
 use Rattle.kat_ast.specs.declared.assertion.Assertion.TheOpen as a
 use Rattle.kat_ast.specs.declared.assertion.Assertion.TheFolds.{fold-Assertion}
-use Rattle.kat_ast.specs.declared.decl.TypeName.{TypeName}
-use Rattle.kat_ast.specs.declared.decl.TypeName.TheVariants.{Named}
-use Rattle.kat_ast.specs.declared.decl.Param.{Param}
+use Rattle.kat_ast.specs.declared.type_name.TypeName.{TypeName}
+use Rattle.kat_ast.specs.declared.type_name.TypeName.TheVariants.{Named}
+use Rattle.kat_ast.specs.declared.type_name.Param.{Param}
 use Rattle.kat_ast.specs.declared.decl.Phase.{Phase}
 use Rattle.kat_ast.specs.declared.decl.Phase.TheVariants.{Block as BlockPhase}
 use Rattle.kat_ast.specs.declared.decl.When.{When}

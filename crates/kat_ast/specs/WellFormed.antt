@@ -6,8 +6,7 @@ use Rattle.kat_tree.specs.Preorder.{count_of}
 use Rattle.kat_tree.specs.Written.{IsToken, tokens_of}
 use Rattle.kat_ast.specs.declared.decl.DeclForm.{DeclForm}
 use Rattle.kat_ast.specs.Spec.{Spec}
-use Rattle.kat_ast.specs.Written.{tree_of_decl}
-use Rattle.kat_ast.specs.Formed.{is_formed_decl}
+use Rattle.kat_ast.specs.Declarations.{tree_of_decl, is_formed_decl}
 
 -- Each name is a name token other than `true`, `false` and `unit`, no named type is `bool`, and each form has its
 -- count of parts; the text nests at most 63 brackets, and has fewer than 2^32 trees.

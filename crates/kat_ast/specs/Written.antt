@@ -16,9 +16,9 @@ use Rattle.kat_ast.specs.declared.stm.Stm.TheFolds.{fold-Stm}
 use Rattle.kat_ast.specs.declared.assertion.Assertion.{Assertion}
 use Rattle.kat_ast.specs.declared.assertion.Assertion.TheOpen as a
 use Rattle.kat_ast.specs.declared.assertion.Assertion.TheFolds.{fold-Assertion}
-use Rattle.kat_ast.specs.declared.decl.TypeName.{TypeName}
-use Rattle.kat_ast.specs.declared.decl.TypeName.TheVariants as t
-use Rattle.kat_ast.specs.declared.decl.Param.{Param}
+use Rattle.kat_ast.specs.declared.type_name.TypeName.{TypeName}
+use Rattle.kat_ast.specs.declared.type_name.TypeName.TheVariants as t
+use Rattle.kat_ast.specs.declared.type_name.Param.{Param}
 use Rattle.kat_ast.specs.declared.decl.RegisterKind.{RegisterKind}
 use Rattle.kat_ast.specs.declared.decl.RegisterKind.TheVariants as r
 use Rattle.kat_ast.specs.declared.decl.CellsKind.{CellsKind}

@@ -3,7 +3,11 @@
 // greatest u32, which no declaration comes near.
 
 ghost use Rattle.std.specs.Prelude.{◌≡◌};
-ghost use Rattle.kat_ast.specs.Trees.{capped, numbers_of_op, trees_of_expr, trees_of_exprs, trees_of_stm, trees_of_stms, trees_of_case_arms, trees_of_match_arms, trees_of_type, trees_of_params};
+ghost use Rattle.kat_value.specs.Words.{numbers_of_op};
+ghost use Rattle.kat_ast.specs.Parts.{capped};
+ghost use Rattle.kat_ast.specs.Types.{trees_of_type, trees_of_params};
+ghost use Rattle.kat_ast.specs.Expressions.{trees_of_expr, trees_of_exprs};
+ghost use Rattle.kat_ast.specs.Statements.{trees_of_stm, trees_of_stms, trees_of_case_arms, trees_of_match_arms};
 
 use crate::decl::{Param, TypeName};
 use crate::expr::Expr;

@@ -192,7 +192,7 @@ impl Model for Decl {
 
     ghost coded = { Prim.hlevel (codes, expr.the_row.coded, stm.the_row.coded, assertion.the_row.coded) };
 
-    ghost use Rattle.kat_ast.specs.WellFormed.{IsDecl};
+    ghost use Rattle.kat_ast.specs.Declarations.{IsDecl};
 
     ghost view = { λ d. d.form };
 
@@ -200,7 +200,7 @@ impl Model for Decl {
 }
 
 impl Decl {
-    ghost use Rattle.kat_ast.specs.WellFormed.{IsDecl};
+    ghost use Rattle.kat_ast.specs.Declarations.{IsDecl};
 
     /// The declaration of a form.
     pub fn new(form: DeclForm) -> Decl
@@ -238,7 +238,7 @@ impl Model for Spec {
 
     ghost coded = { Prim.hlevel (codes, expr.the_row.coded, stm.the_row.coded, assertion.the_row.coded) };
 
-    ghost use Rattle.kat_ast.specs.WellFormed.{IsSpec};
+    ghost use Rattle.kat_ast.specs.Specifications.{IsSpec};
 
     ghost view = { λ s. record { version = s.version; decls = s.decls } };
 
@@ -246,7 +246,7 @@ impl Model for Spec {
 }
 
 impl Spec {
-    ghost use Rattle.kat_ast.specs.WellFormed.{IsSpec};
+    ghost use Rattle.kat_ast.specs.Specifications.{IsSpec};
 
     /// The specification of these declarations. The version is 1.
     pub fn new(version: u64, decls: Items<Decl>) -> Spec

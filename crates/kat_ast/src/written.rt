@@ -7,17 +7,18 @@ ghost use Rattle.kat_tree.specs.Written.{IsWritable};
 ghost use Rattle.kat_ast.specs.declared.expr.Expr.{Expr};
 ghost use Rattle.kat_ast.specs.declared.stm.Stm.{Stm};
 ghost use Rattle.kat_ast.specs.declared.assertion.Assertion.{Assertion};
-ghost use Rattle.kat_ast.specs.declared.decl.TypeName.{TypeName};
-ghost use Rattle.kat_ast.specs.declared.decl.Param.{Param};
+ghost use Rattle.kat_ast.specs.declared.type_name.TypeName.{TypeName};
+ghost use Rattle.kat_ast.specs.declared.type_name.Param.{Param};
 ghost use Rattle.kat_ast.specs.declared.decl.Phase.{Phase};
 ghost use Rattle.kat_ast.specs.declared.decl.When.{When};
 ghost use Rattle.kat_ast.specs.declared.decl.DeclForm.{DeclForm};
 ghost use Rattle.kat_ast.specs.Spec.{Spec};
-ghost use Rattle.kat_ast.specs.Trees.{trees_of_type, trees_of_params, trees_of_expr, trees_of_stm, trees_of_assertion, trees_of_phase, trees_of_when, trees_of_decl};
-ghost use Rattle.kat_ast.specs.Written.{tree_of_type, tree_of_params, tree_of_expr, tree_of_stm, tree_of_assertion, tree_of_phase, tree_of_when, tree_of_decl};
-ghost use Rattle.kat_ast.specs.Formed.{is_formed_type, is_formed_expr, is_formed_stm, is_formed_assertion, is_formed_decl};
-ghost use Rattle.kat_ast.specs.WellFormed.{IsSpec};
-ghost use Rattle.kat_ast.specs.Describes.{tree_of_spec, Reads};
+ghost use Rattle.kat_ast.specs.Types.{trees_of_type, trees_of_params, tree_of_type, tree_of_params, is_formed_type};
+ghost use Rattle.kat_ast.specs.Expressions.{trees_of_expr, tree_of_expr, is_formed_expr};
+ghost use Rattle.kat_ast.specs.Statements.{trees_of_stm, tree_of_stm, is_formed_stm};
+ghost use Rattle.kat_ast.specs.Assertions.{trees_of_assertion, tree_of_assertion, is_formed_assertion};
+ghost use Rattle.kat_ast.specs.Declarations.{trees_of_phase, trees_of_when, trees_of_decl, tree_of_phase, tree_of_when, tree_of_decl, is_formed_decl};
+ghost use Rattle.kat_ast.specs.Specifications.{IsSpec, tree_of_spec, Reads};
 
 use kat_tree::one_tree;
 

@@ -1,6 +1,6 @@
 -- A cycle is what the body of the step function does.
 use Rattle.std.proofs.Common.{◌≡◌, ℕ, suc, ◌-◌, ◌<◌, refl, ap, sym, ◌∙◌, arith, List, [], ◌∷◌, Some, Option, unwrap_or}
-use Rattle.kat_ast.specs.declared.decl.Param.{Param}
+use Rattle.kat_ast.specs.declared.type_name.Param.{Param}
 use Rattle.kat_ast.specs.Spec.{Spec}
 use Rattle.kat_ast.specs.declared.stm.Stm.{Stm}
 use Rattle.kat_syntax.specs.Tables.{Function, function_from, step_of}

@@ -8,7 +8,8 @@ use Rattle.kat_ast.specs.declared.stm.Stm.TheVariants.{Let as LetStm, If as IfSt
 use Rattle.kat_ast.specs.declared.stm.Stm.TheViews.{out-Stm, outs-Let, outs-If}
 use Rattle.kat_ast.specs.declared.stm.Stm.TheFolds.{fold_out-Stm}
 use Rattle.kat_syntax.specs.Tables.{Name}
-use Rattle.kat_ast.specs.Trees.{trees_of_expr, trees_of_stm, stm_trees}
+use Rattle.kat_ast.specs.Expressions.{trees_of_expr}
+use Rattle.kat_ast.specs.Statements.{trees_of_stm, stm_trees}
 use Rattle.kat_syntax.specs.Machine.{Progress}
 use Rattle.kat_syntax.specs.Meaning.{Locals, Outcome, Done, then_do, inside, is_true, value_of_expr, Calls, meaning}
 use Rattle.kat_syntax.specs.MeaningByParts.{LetByParts, IfByParts}

@@ -1,6 +1,7 @@
 -- What stands in a form before a part of it.
 use Rattle.std.specs.Prelude.{ℕ, ◌+◌}
-use Rattle.kat_ast.specs.Trees.{trees_of_expr, trees_of_stm}
+use Rattle.kat_ast.specs.Expressions.{trees_of_expr}
+use Rattle.kat_ast.specs.Statements.{trees_of_stm}
 use Rattle.kat_eval.specs.declared.running.Before.{Before}
 use Rattle.kat_eval.specs.declared.running.Before.TheVariants.{First, Test, Branch}
 

@@ -2,7 +2,7 @@
 // one comes, on the way back, so that a cycle that completes pays nothing for it.
 
 ghost use Rattle.std.specs.Prelude.{◌≡◌, ◌<◌, ◌^◌, IfOk};
-ghost use Rattle.kat_ast.specs.Trees.{trees_of_stm};
+ghost use Rattle.kat_ast.specs.Statements.{trees_of_stm};
 ghost use Rattle.kat_syntax.specs.Meaning.{meaning, is_true, read_of, write_to, Calls};
 ghost use Rattle.kat_syntax.specs.Cycle.{register_names};
 ghost use Rattle.kat_eval.specs.Locals.{locals_of};

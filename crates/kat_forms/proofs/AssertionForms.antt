@@ -9,14 +9,16 @@ use Rattle.kat_shapes.specs.declared.sort.Sort.{Sort}
 use Rattle.kat_shapes.specs.declared.sort.Sort.TheVariants as sort
 use Rattle.kat_ast.specs.declared.expr.Expr.{Expr}
 use Rattle.kat_ast.specs.declared.assertion.Assertion.{Assertion}
-use Rattle.kat_ast.specs.declared.decl.TypeName.{TypeName}
+use Rattle.kat_ast.specs.declared.type_name.TypeName.{TypeName}
 use Rattle.kat_ast.specs.declared.assertion.Assertion.TheVariants as made
 use Rattle.kat_ast.specs.declared.assertion.Assertion.TheVariants.{rolls-Pure, rolls-Register, rolls-Cell, rolls-Star, rolls-If, rolls-Exists, rolls-Predicate, rolls-Region}
 use Rattle.kat_ast.specs.declared.assertion.Assertion.TheOpen as layer
 use Rattle.kat_ast.specs.declared.assertion.Assertion.TheOpen as assertion
 use Rattle.kat_ast.specs.declared.assertion.Assertion.TheFolds.{map-Assertion, fold-roll-Assertion, ind-Assertion}
-use Rattle.kat_ast.specs.Written.{word, form, tree_of_type, tree_of_param, tree_of_expr, assertion_tree, tree_of_assertion}
-use Rattle.kat_ast.specs.Formed.{is_name, every, is_formed_type, is_formed_param, is_formed_expr, are_formed_exprs, assertion_formed, is_formed_assertion}
+use Rattle.kat_ast.specs.Parts.{word, form, is_name, every}
+use Rattle.kat_ast.specs.Types.{tree_of_type, tree_of_param, is_formed_type, is_formed_param}
+use Rattle.kat_ast.specs.Expressions.{tree_of_expr, is_formed_expr, are_formed_exprs}
+use Rattle.kat_ast.specs.Assertions.{assertion_tree, tree_of_assertion, assertion_formed, is_formed_assertion}
 use Rattle.kat_shapes.specs.Forms.{exactly, many, form_of, newest}
 use Rattle.kat_shapes.specs.Fits.{fits}
 use Rattle.kat_forms.specs.Parts.{FitsSort, HasParts}

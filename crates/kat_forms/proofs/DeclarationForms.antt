@@ -17,8 +17,12 @@ use Rattle.kat_ast.specs.declared.decl.CellsKind.TheVariants as cells_kind
 use Rattle.kat_ast.specs.declared.assertion.Assertion.{Assertion}
 use Rattle.kat_ast.specs.declared.decl.DeclForm.{DeclForm}
 use Rattle.kat_ast.specs.declared.decl.DeclForm.TheVariants as decl
-use Rattle.kat_ast.specs.Written.{word, number, form, tree_of_expr, tree_of_stm, tree_of_phase, tree_of_when, word_of_register_kind, word_of_cells_kind, holding, tree_of_decl}
-use Rattle.kat_ast.specs.Formed.{is_name, every, is_some, is_formed_expr, is_formed_stm, is_formed_assertion, is_formed_type, are_formed_params, is_formed_phase, is_formed_when, is_formed_decl}
+use Rattle.kat_ast.specs.Parts.{word, number, form, is_name, every, is_some}
+use Rattle.kat_ast.specs.Types.{is_formed_type, are_formed_params}
+use Rattle.kat_ast.specs.Expressions.{tree_of_expr, is_formed_expr}
+use Rattle.kat_ast.specs.Statements.{tree_of_stm, is_formed_stm}
+use Rattle.kat_ast.specs.Assertions.{is_formed_assertion}
+use Rattle.kat_ast.specs.Declarations.{tree_of_phase, tree_of_when, word_of_register_kind, word_of_cells_kind, holding, tree_of_decl, is_formed_phase, is_formed_when, is_formed_decl}
 use Rattle.kat_shapes.specs.Forms.{between, many, form_of, newest}
 use Rattle.kat_shapes.specs.Fits.{fits}
 use Rattle.kat_forms.specs.Parts.{FitsSort, HasParts}

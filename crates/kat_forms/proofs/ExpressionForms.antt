@@ -19,8 +19,9 @@ use Rattle.kat_ast.specs.declared.expr.Expr.TheVariants.{rolls-Name, rolls-Unit,
 use Rattle.kat_ast.specs.declared.expr.Expr.TheOpen as layer
 use Rattle.kat_ast.specs.declared.expr.Expr.TheOpen as expr
 use Rattle.kat_ast.specs.declared.expr.Expr.TheFolds.{map-Expr, fold-roll-Expr, ind-Expr}
-use Rattle.kat_ast.specs.Written.{word, number, form, word_of_op, numbers_before, expr_tree, tree_of_expr}
-use Rattle.kat_ast.specs.Formed.{is_name, every, arity_of, is_written, expr_formed, is_formed_expr, are_formed_exprs}
+use Rattle.kat_value.specs.Words.{word_of_op, arity_of, is_written}
+use Rattle.kat_ast.specs.Parts.{word, number, form, is_name, every}
+use Rattle.kat_ast.specs.Expressions.{numbers_before, expr_tree, tree_of_expr, expr_formed, is_formed_expr, are_formed_exprs}
 use Rattle.kat_shapes.specs.Forms.{Rows, exactly, many, form_of, newest, row_of, expressions}
 use Rattle.kat_shapes.specs.Fits.{fits}
 use Rattle.kat_forms.specs.Parts.{FitsSort, AllFit, HasParts}

@@ -15,7 +15,7 @@ use Rattle.kat_tree.specs.declared.tree.Tree.TheVariants.{rolls-Atom, rolls-List
 use Rattle.kat_tree.specs.declared.tree.Tree.TheOpen.{Tree-F}
 use Rattle.kat_tree.specs.declared.tree.Tree.TheViews.{roll-Tree, out-Tree, roll-out-Tree}
 use Rattle.kat_tree.specs.declared.tree.Tree.TheFolds.{fold-roll-Tree}
-use Rattle.kat_ast.specs.Written.{word, number, form}
+use Rattle.kat_ast.specs.Parts.{word, number, form}
 use Rattle.kat_shapes.specs.declared.sort.Sort.{Sort}
 use Rattle.kat_shapes.specs.declared.sort.Sort.TheVariants as sort
 use Rattle.kat_shapes.specs.Forms.{Form, Rows, exactly, many, between, row_of, forms_of, form_in, form_of_word, form_of, middles, sorts_of, sorts_for, fits_token, newest}

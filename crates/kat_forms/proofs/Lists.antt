@@ -9,7 +9,7 @@ use Rattle.kat_tree.specs.declared.tree.Tree.TheOpen.{Tree-F}
 use Rattle.kat_tree.specs.declared.tree.Tree.TheViews.{out-Tree, outs-List}
 use Rattle.kat_tree.specs.declared.tree.Tree.TheFolds.{fold-roll-Tree}
 use Rattle.kat_tree.specs.Preorder.{count_in, count_of}
-use Rattle.kat_ast.specs.Formed.{every}
+use Rattle.kat_ast.specs.Parts.{every}
 use Rattle.kat_forms.specs.Forms.{AreForms}
 
 -- a part at a place of a list

@@ -17,8 +17,9 @@ use Rattle.kat_ast.specs.declared.stm.Stm.TheOpen as layer
 use Rattle.kat_ast.specs.declared.stm.Stm.TheOpen as stm
 use Rattle.kat_ast.specs.declared.stm.Stm.TheShapes.{former-Stm-Case-1-at-2 as case_arm, former-Stm-Match-1-at-3 as match_arm}
 use Rattle.kat_ast.specs.declared.stm.Stm.TheFolds.{map-Stm, fold-roll-Stm, ind-Stm}
-use Rattle.kat_ast.specs.Written.{word, form, tree_of_expr, tree_of_case_arm, tree_of_match_arm, stm_tree, tree_of_stm}
-use Rattle.kat_ast.specs.Formed.{is_name, every, is_some, is_formed_expr, are_formed_exprs, is_formed_case_arm, is_formed_match_arm, stm_formed, is_formed_stm}
+use Rattle.kat_ast.specs.Parts.{word, form, is_name, every, is_some}
+use Rattle.kat_ast.specs.Expressions.{tree_of_expr, is_formed_expr, are_formed_exprs}
+use Rattle.kat_ast.specs.Statements.{tree_of_case_arm, tree_of_match_arm, stm_tree, tree_of_stm, is_formed_case_arm, is_formed_match_arm, stm_formed, is_formed_stm}
 use Rattle.kat_shapes.specs.Forms.{exactly, many, form_of, newest}
 use Rattle.kat_shapes.specs.Fits.{fits}
 use Rattle.kat_forms.specs.Parts.{FitsSort, HasParts}

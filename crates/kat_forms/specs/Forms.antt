@@ -8,13 +8,17 @@ use Rattle.kat_ast.specs.declared.stm.CaseArm.{CaseArm}
 use Rattle.kat_ast.specs.declared.stm.MatchArm.{MatchArm}
 use Rattle.kat_ast.specs.declared.stm.Stm.TheShapes.{former-Stm-Case-1-at-2 as case_arm, former-Stm-Match-1-at-3 as match_arm}
 use Rattle.kat_ast.specs.declared.assertion.Assertion.{Assertion}
-use Rattle.kat_ast.specs.declared.decl.TypeName.{TypeName}
-use Rattle.kat_ast.specs.declared.decl.Param.{Param}
+use Rattle.kat_ast.specs.declared.type_name.TypeName.{TypeName}
+use Rattle.kat_ast.specs.declared.type_name.Param.{Param}
 use Rattle.kat_ast.specs.declared.decl.Phase.{Phase}
 use Rattle.kat_ast.specs.declared.decl.When.{When}
 use Rattle.kat_ast.specs.declared.decl.DeclForm.{DeclForm}
-use Rattle.kat_ast.specs.Written.{word, number, tree_of_type, tree_of_param, tree_of_expr, tree_of_case_arm, tree_of_match_arm, tree_of_stm, tree_of_assertion, holding, tree_of_phase, tree_of_when, tree_of_decl}
-use Rattle.kat_ast.specs.Formed.{every, is_name, is_formed_type, is_formed_param, is_formed_expr, is_formed_case_arm, is_formed_match_arm, is_formed_stm, is_formed_assertion, is_formed_phase, is_formed_when, is_formed_decl}
+use Rattle.kat_ast.specs.Parts.{word, number, every, is_name}
+use Rattle.kat_ast.specs.Types.{tree_of_type, tree_of_param, is_formed_type, is_formed_param}
+use Rattle.kat_ast.specs.Expressions.{tree_of_expr, is_formed_expr}
+use Rattle.kat_ast.specs.Statements.{tree_of_case_arm, tree_of_match_arm, tree_of_stm, is_formed_case_arm, is_formed_match_arm, is_formed_stm}
+use Rattle.kat_ast.specs.Assertions.{tree_of_assertion, is_formed_assertion}
+use Rattle.kat_ast.specs.Declarations.{holding, tree_of_phase, tree_of_when, tree_of_decl, is_formed_phase, is_formed_when, is_formed_decl}
 
 -- a name
 abbrev pub IsName : Tree → List ℕ → Type 0

@@ -3,8 +3,8 @@ use Rattle.std.specs.Prelude.{◌≡◌, ℕ, true, List, [], ◌∷◌, map, re
 use Rattle.kat_tree.specs.declared.tree.Tree.{Tree}
 use Rattle.kat_value.specs.declared.op.Op.{Op}
 use Rattle.kat_value.specs.declared.op.Op.TheVariants as op
-use Rattle.kat_ast.specs.Formed.{arity_of, is_written}
-use Rattle.kat_ast.specs.Written.{word_of_op, numbers_before}
+use Rattle.kat_value.specs.Words.{arity_of, is_written, word_of_op}
+use Rattle.kat_ast.specs.Expressions.{numbers_before}
 use Rattle.kat_shapes.specs.declared.sort.Sort.TheVariants.{Expression, Word}
 use Rattle.kat_shapes.specs.Forms.{Rows, exactly, form_of, newest}
 

@@ -4,7 +4,7 @@ use Rattle.kat_tree.specs.declared.tree.Tree.{Tree}
 use Rattle.kat_tree.specs.Lexeme.{nesting}
 use Rattle.kat_tree.specs.Preorder.{count_of}
 use Rattle.kat_tree.specs.Written.{IsWritable}
-use Rattle.kat_ast.specs.Written.{word, form}
+use Rattle.kat_ast.specs.Parts.{word, form}
 use Rattle.kat_shapes.specs.declared.sort.Sort.{Sort}
 use Rattle.kat_shapes.specs.Fits.{fits}
 

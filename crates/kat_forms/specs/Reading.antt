@@ -2,8 +2,7 @@
 use Rattle.std.specs.Prelude.{◌≡◌, Result, Ok, Err}
 use Rattle.kat_tree.specs.declared.tree.Tree.{Tree}
 use Rattle.kat_ast.specs.declared.decl.DeclForm.{DeclForm}
-use Rattle.kat_ast.specs.Written.{tree_of_decl}
-use Rattle.kat_ast.specs.WellFormed.{IsDecl}
+use Rattle.kat_ast.specs.Declarations.{tree_of_decl, IsDecl}
 use Rattle.kat_shapes.specs.declared.sort.Sort.TheVariants.{Spec, Declaration}
 use Rattle.kat_shapes.specs.declared.misfit.Misfit.{Misfit}
 use Rattle.kat_shapes.specs.Places.{IsFirstMisfit as IsFirstMisfitOf}

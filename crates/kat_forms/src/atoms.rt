@@ -1,8 +1,7 @@
 //! Names, numbers and types, and the word with which a list begins.
 
 ghost use Rattle.std.specs.Prelude.{◌≡◌, true, ℕ, [], ◌∷◌, List, IfOk};
-ghost use Rattle.kat_ast.specs.Formed.{is_name};
-ghost use Rattle.kat_ast.specs.Written.{word, number, form};
+ghost use Rattle.kat_ast.specs.Parts.{is_name, word, number, form};
 ghost use Rattle.kat_forms.specs.Parts.{FitsSort, HasParts, IsHeaded, IsHolder};
 ghost use Rattle.kat_forms.specs.Forms.{IsName, IsType};
 

@@ -2,8 +2,9 @@
 
 ghost use Rattle.std.specs.Prelude.{◌≡◌, ◌-◌, ◌++◌, [], ◌∷◌, true, IfOk, length, map, replicate, codes};
 ghost use Rattle.std.specs.List.{AllByRecursion};
-ghost use Rattle.kat_ast.specs.Formed.{every, is_formed_stm};
-ghost use Rattle.kat_ast.specs.Written.{word, form, word_of_register_kind, word_of_cells_kind, tree_of_stm};
+ghost use Rattle.kat_ast.specs.Parts.{every, word, form};
+ghost use Rattle.kat_ast.specs.Statements.{is_formed_stm, tree_of_stm};
+ghost use Rattle.kat_ast.specs.Declarations.{word_of_register_kind, word_of_cells_kind};
 ghost use Rattle.kat_forms.specs.Parts.{FitsSort, HasParts};
 ghost use Rattle.kat_forms.specs.Forms.{IsHolding, IsPhase, IsWhen, IsDeclForm, AreWhens};
 

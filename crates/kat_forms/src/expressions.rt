@@ -3,8 +3,9 @@
 ghost use Rattle.std.specs.Prelude.{◌≡◌, ◌-◌, ◌++◌, true, None, [], ◌∷◌, IfOk, length, map, replicate, take, codes};
 ghost use Rattle.std.specs.List.{AllByRecursion};
 ghost use Rattle.kat_tree.specs.declared.tree.Tree.TheVariants as variant;
-ghost use Rattle.kat_ast.specs.Formed.{is_name, is_formed_expr, are_formed_exprs, arity_of};
-ghost use Rattle.kat_ast.specs.Written.{word, number, form, word_of_op, numbers_before, tree_of_expr};
+ghost use Rattle.kat_value.specs.Words.{arity_of, word_of_op};
+ghost use Rattle.kat_ast.specs.Parts.{is_name, word, number, form};
+ghost use Rattle.kat_ast.specs.Expressions.{is_formed_expr, are_formed_exprs, numbers_before, tree_of_expr};
 ghost use Rattle.kat_shapes.specs.Forms.{expressions, row_of};
 ghost use Rattle.kat_forms.specs.Parts.{FitsSort, HasParts};
 ghost use Rattle.kat_forms.specs.Operations.{bare_operations};

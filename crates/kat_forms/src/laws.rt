@@ -4,7 +4,7 @@ ghost use Rattle.std.specs.Prelude.{◌≡◌};
 ghost use Rattle.kat_tree.specs.declared.tree.Tree.{Tree};
 ghost use Rattle.kat_ast.specs.declared.decl.DeclForm.{DeclForm};
 ghost use Rattle.kat_ast.specs.Spec.{Spec};
-ghost use Rattle.kat_ast.specs.Describes.{Describes};
+ghost use Rattle.kat_ast.specs.Specifications.{Describes};
 ghost use Rattle.kat_shapes.specs.declared.misfit.Misfit.{Misfit as AnyMisfit};
 ghost use Rattle.kat_shapes.specs.Places.{AllHaveForm};
 ghost use Rattle.kat_forms.specs.Reading.{DescribesDecl, IsFirstMisfit, IsFirstMisfitOfDecl};

@@ -3,8 +3,8 @@
 ghost use Rattle.std.specs.Prelude.{◌≡◌, true, IfOk, map};
 ghost use Rattle.std.specs.List.{AllByRecursion};
 ghost use Rattle.kat_tree.specs.declared.tree.Tree.TheVariants as variant;
-ghost use Rattle.kat_ast.specs.Formed.{every, is_name, is_some, are_formed_params};
-ghost use Rattle.kat_ast.specs.Written.{word, number, tree_of_params};
+ghost use Rattle.kat_ast.specs.Parts.{every, is_name, is_some, word, number};
+ghost use Rattle.kat_ast.specs.Types.{are_formed_params, tree_of_params};
 ghost use Rattle.kat_forms.specs.Parts.{FitsSort};
 ghost use Rattle.kat_forms.specs.Forms.{IsParam, AreNames, AreParams};
 

@@ -2,7 +2,7 @@
 
 ghost use Rattle.std.specs.Prelude.{◌≡◌, ◌-◌, [], ◌∷◌, IfOk, length, replicate, codes};
 ghost use Rattle.std.specs.List.{AllByRecursion};
-ghost use Rattle.kat_ast.specs.Written.{form};
+ghost use Rattle.kat_ast.specs.Parts.{form};
 ghost use Rattle.kat_forms.specs.Parts.{FitsSort, HasParts};
 ghost use Rattle.kat_forms.specs.Forms.{IsStm, AreStms, AreCaseArms, AreMatchArms};
 

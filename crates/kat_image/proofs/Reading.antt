@@ -8,7 +8,7 @@ use Rattle.std.proofs.lemmas.Option.{slice_get_within, slice_get-get_or, get_or_
 use Rattle.kat_value.specs.declared.value.Value.{Value}
 use Rattle.kat_value.specs.declared.value.Value.TheVariants.{Bits as BitsValue}
 use Rattle.kat_value.specs.Numbers.{IsNumber}
-use Rattle.kat_ast.specs.declared.decl.TypeName.TheVariants.{Bits}
+use Rattle.kat_ast.specs.declared.type_name.TypeName.TheVariants.{Bits}
 use Rattle.kat_ast.specs.Spec.{Spec}
 use Rattle.kat_syntax.specs.Tables.{registers_of}
 use Rattle.kat_syntax.specs.Cycle.{register_names}

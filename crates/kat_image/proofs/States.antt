@@ -8,7 +8,7 @@ use Rattle.kat_value.specs.declared.value.Value.{Value, fold-roll-Value}
 use Rattle.kat_value.specs.declared.value.Value.TheVariants.{Bits as BitsValue, rolls-Bits}
 use Rattle.kat_value.specs.declared.value.Value.TheOpen.{Bits as BitsLayer}
 use Rattle.kat_value.specs.Typing.{HasType, has_type, layer_has_type}
-use Rattle.kat_ast.specs.declared.decl.TypeName.TheVariants.{Bits}
+use Rattle.kat_ast.specs.declared.type_name.TypeName.TheVariants.{Bits}
 use Rattle.kat_ast.specs.Spec.{Spec}
 use Rattle.kat_syntax.specs.Tables.{RegisterDecl, registers_of}
 use Rattle.kat_syntax.specs.Start.{start_of}

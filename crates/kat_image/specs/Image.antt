@@ -8,8 +8,8 @@ use Rattle.kat_tree.specs.Spelling.{SpellsToken}
 use Rattle.kat_value.specs.declared.value.Value.{Value}
 use Rattle.kat_value.specs.declared.value.Value.TheVariants.{Bits as BitsValue}
 use Rattle.kat_value.specs.Numbers.{IsNumber}
-use Rattle.kat_ast.specs.declared.decl.TypeName.{TypeName}
-use Rattle.kat_ast.specs.declared.decl.TypeName.TheVariants.{Bits}
+use Rattle.kat_ast.specs.declared.type_name.TypeName.{TypeName}
+use Rattle.kat_ast.specs.declared.type_name.TypeName.TheVariants.{Bits}
 use Rattle.kat_ast.specs.declared.decl.DeclForm.{DeclForm}
 use Rattle.kat_ast.specs.Spec.{Spec}
 use Rattle.kat_syntax.specs.Tables.{Name, RegisterDecl, registers_of}

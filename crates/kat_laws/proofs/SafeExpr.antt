@@ -16,7 +16,9 @@ use Rattle.kat_ast.specs.declared.expr.Expr.TheFolds.{map-Expr, fold-roll-Expr, 
 use Rattle.kat_ast.specs.declared.expr.Expr.TheViews.{roll-Expr}
 use Rattle.kat_syntax.specs.Tables.{Name}
 use Rattle.kat_syntax.specs.FirstForm.{is_first_op, expr_first, is_first_expr}
-use Rattle.kat_ast.specs.Formed.{every, arity_of, is_written, expr_formed, is_formed_expr}
+use Rattle.kat_value.specs.Words.{arity_of, is_written}
+use Rattle.kat_ast.specs.Parts.{every}
+use Rattle.kat_ast.specs.Expressions.{expr_formed, is_formed_expr}
 use Rattle.kat_syntax.specs.Typing.{unless, inside, agree, may_be_bits, Scope, local_type, Known, is_width, takes, fixed_behind, args_faults, expr_faults, expr_known, known_of_expr}
 use Rattle.kat_syntax.proofs.TypingLaws.{empty_first, empty_second}
 use Rattle.kat_syntax.specs.Meaning.{Locals, expr_value, value_of_expr}

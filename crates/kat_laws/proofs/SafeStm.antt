@@ -14,9 +14,11 @@ use Rattle.kat_ast.specs.declared.stm.Stm.TheFolds.{map-Stm, fold-roll-Stm, ind-
 use Rattle.kat_ast.specs.declared.stm.Stm.TheViews.{roll-Stm}
 use Rattle.kat_ast.specs.Spec.{Spec}
 use Rattle.kat_syntax.specs.Tables.{Name, RegisterDecl, registers_of}
-use Rattle.kat_ast.specs.Trees.{trees_of_expr}
+use Rattle.kat_ast.specs.Expressions.{trees_of_expr}
 use Rattle.kat_syntax.specs.FirstForm.{is_first_expr, stm_first, is_first_stm}
-use Rattle.kat_ast.specs.Formed.{is_name, is_formed_expr, stm_formed, is_formed_stm}
+use Rattle.kat_ast.specs.Parts.{is_name}
+use Rattle.kat_ast.specs.Expressions.{is_formed_expr}
+use Rattle.kat_ast.specs.Statements.{stm_formed, is_formed_stm}
 use Rattle.kat_syntax.specs.Runnable.{IsFirstForm}
 use Rattle.kat_syntax.specs.Typing.{unless, inside as faults_inside, Scope, Known, agree, is_in_scope, register_type, known_of_expr, declared_by, stm_faults, stm_known, known_of_stm}
 use Rattle.kat_syntax.proofs.TypingLaws.{empty_first, empty_second}

@@ -6,15 +6,16 @@ use Rattle.std.specs.Str.{bytes_eq}
 use Rattle.std.proofs.lemmas.Bool.{and_parts, false≢true}
 use Rattle.kat_value.specs.declared.types.Ty.{Ty}
 use Rattle.kat_ast.specs.declared.stm.Stm.{Stm}
-use Rattle.kat_ast.specs.declared.decl.TypeName.TheVariants.{Unit as UnitName}
+use Rattle.kat_ast.specs.declared.type_name.TypeName.TheVariants.{Unit as UnitName}
 use Rattle.kat_ast.specs.declared.decl.DeclForm.{DeclForm}
 use Rattle.kat_ast.specs.declared.decl.DeclForm.TheVariants.{Fun}
 use Rattle.kat_ast.specs.Spec.{Spec}
 use Rattle.kat_syntax.specs.Tables.{Name, Function, function_at, function_from, step_of}
-use Rattle.kat_ast.specs.Trees.{trees_of_stm}
+use Rattle.kat_ast.specs.Statements.{trees_of_stm}
 use Rattle.kat_syntax.specs.FirstForm.{is_first_stm, is_first_decl, are_first_decls}
-use Rattle.kat_ast.specs.Formed.{is_name, is_formed_stm}
-use Rattle.kat_ast.specs.WellFormed.{IsDecl}
+use Rattle.kat_ast.specs.Parts.{is_name}
+use Rattle.kat_ast.specs.Statements.{is_formed_stm}
+use Rattle.kat_ast.specs.Declarations.{IsDecl}
 use Rattle.kat_syntax.specs.Typing.{in_decl, Fault, known_of_stm, declared_by, decl_faults, inner_faults}
 use Rattle.kat_syntax.proofs.TypingLaws.{empty_first, empty_second, no_inner_faults, few_declarations}
 use Rattle.kat_syntax.specs.Machine.{Progress}

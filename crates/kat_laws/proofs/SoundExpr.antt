@@ -17,7 +17,9 @@ use Rattle.kat_ast.specs.declared.expr.Expr.TheFolds.{map-Expr, fold-roll-Expr, 
 use Rattle.kat_ast.specs.declared.expr.Expr.TheViews.{roll-Expr}
 use Rattle.kat_syntax.specs.Tables.{Name}
 use Rattle.kat_syntax.specs.FirstForm.{is_first_op, expr_first, is_first_expr}
-use Rattle.kat_ast.specs.Formed.{every, arity_of, is_written, expr_formed, is_formed_expr}
+use Rattle.kat_value.specs.Words.{arity_of, is_written}
+use Rattle.kat_ast.specs.Parts.{every}
+use Rattle.kat_ast.specs.Expressions.{expr_formed, is_formed_expr}
 use Rattle.kat_syntax.specs.Typing.{unless, inside, Scope, local_type, Known, is_width, takes, fixed_behind, fixed_by, type_of_op, args_faults, expr_type, expr_faults, expr_known, known_of_expr}
 use Rattle.kat_syntax.proofs.TypingLaws.{empty_first, empty_second}
 use Rattle.kat_syntax.specs.Meaning.{Locals, value_of_name, expr_value, value_of_expr}

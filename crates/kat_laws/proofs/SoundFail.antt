@@ -7,7 +7,8 @@ use Rattle.kat_ast.specs.declared.stm.Stm.{Stm}
 use Rattle.kat_ast.specs.declared.stm.Stm.TheOpen.{Stm-F, Ret, Let, If, Read, Write, Fail as FailStm}
 use Rattle.kat_ast.specs.declared.stm.Stm.TheFolds.{map-Stm, fold-roll-Stm, ind-Stm}
 use Rattle.kat_syntax.specs.Tables.{Name}
-use Rattle.kat_ast.specs.Trees.{trees_of_expr, trees_of_stm}
+use Rattle.kat_ast.specs.Expressions.{trees_of_expr}
+use Rattle.kat_ast.specs.Statements.{trees_of_stm}
 use Rattle.kat_syntax.specs.FirstForm.{is_first_expr, stm_first, is_first_stm}
 use Rattle.kat_syntax.specs.Machine.{Progress}
 use Rattle.kat_syntax.specs.Meaning.{Locals, Here, There, Outcome, Done, Out, Fail, then_do, inside, is_true, Calls, Part, part_of, meaning, value_of_expr}

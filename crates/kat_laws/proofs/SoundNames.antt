@@ -12,13 +12,14 @@ use Rattle.kat_tree.specs.Character.{begins_word}
 use Rattle.kat_tree.specs.Lexeme.{joined}
 use Rattle.kat_tree.specs.Spelling.{IsWord as IsTreeWord}
 use Rattle.kat_tree.specs.Written.{IsNameToken, IsToken, tokens_of}
-use Rattle.kat_ast.specs.declared.decl.TypeName.{TypeName}
+use Rattle.kat_ast.specs.declared.type_name.TypeName.{TypeName}
 use Rattle.kat_ast.specs.declared.decl.RegisterKind.{RegisterKind}
 use Rattle.kat_ast.specs.declared.decl.DeclForm.{DeclForm}
 use Rattle.kat_ast.specs.declared.decl.DeclForm.TheVariants.{Register}
 use Rattle.kat_syntax.specs.Tables.{Name}
-use Rattle.kat_ast.specs.Written.{word, tree_of_type, word_of_register_kind, tree_of_decl}
-use Rattle.kat_ast.specs.WellFormed.{IsDecl}
+use Rattle.kat_ast.specs.Parts.{word}
+use Rattle.kat_ast.specs.Types.{tree_of_type}
+use Rattle.kat_ast.specs.Declarations.{word_of_register_kind, tree_of_decl, IsDecl}
 use Rattle.kat_syntax.specs.Cycle.{register_names}
 use Rattle.kat_syntax.proofs.TypingLaws.{registers_differ}
 use Rattle.kat_laws.specs.TextLaw.{IsWord}

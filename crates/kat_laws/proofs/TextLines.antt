@@ -7,7 +7,7 @@ use Rattle.std.proofs.lemmas.List.Elements.{All-head, All-tail}
 use Rattle.kat_names.specs.Names.{AllDiffer}
 use Rattle.kat_value.specs.declared.value.Value.{Value}
 use Rattle.kat_value.specs.Equality.{value_eq, TestsEquality}
-use Rattle.kat_ast.specs.declared.decl.TypeName.{TypeName}
+use Rattle.kat_ast.specs.declared.type_name.TypeName.{TypeName}
 use Rattle.kat_syntax.specs.Tables.{Name, RegisterDecl}
 use Rattle.kat_syntax.specs.StateText.{text_of_value, register_line, all_lines, changed_lines}
 use Rattle.kat_laws.specs.TextLaw.{IsWord, IsOfType, AreOfTypes}

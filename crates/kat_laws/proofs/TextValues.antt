@@ -9,8 +9,8 @@ use Rattle.kat_value.specs.declared.value.Value.{Value, out-Value, roll-Value, r
 use Rattle.kat_value.specs.declared.value.Value.TheVariants.{Unit as UnitValue, Bool as Truth, Bits as Number, rolls-Unit, rolls-Bool, rolls-Bits}
 use Rattle.kat_value.specs.declared.value.Value.TheOpen.{Value-F, Unit as UnitLayer, Bool as TruthLayer, Bits as NumberLayer}
 use Rattle.kat_value.specs.Typing.{HasType, has_type, layer_has_type}
-use Rattle.kat_ast.specs.declared.decl.TypeName.{TypeName}
-use Rattle.kat_ast.specs.declared.decl.TypeName.TheVariants.{Unit as UnitName, Bool as BoolName, Bits as BitsName, Named}
+use Rattle.kat_ast.specs.declared.type_name.TypeName.{TypeName}
+use Rattle.kat_ast.specs.declared.type_name.TypeName.TheVariants.{Unit as UnitName, Bool as BoolName, Bits as BitsName, Named}
 use Rattle.kat_syntax.specs.StateText.{hex_digits, text_of_value}
 use Rattle.kat_laws.specs.TextLaw.{IsOfType}
 use Rattle.kat_laws.proofs.TextNumbers.{front_told, length-hex_digits, hex_digits_told}

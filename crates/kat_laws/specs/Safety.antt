@@ -19,7 +19,8 @@ use Rattle.kat_ast.specs.declared.stm.Stm.TheFolds.{map-Stm, fold-Stm}
 use Rattle.kat_ast.specs.Spec.{Spec}
 use Rattle.kat_syntax.specs.Tables.{Name, RegisterDecl, registers_of, Function, function_from, step_of}
 use Rattle.kat_syntax.specs.FirstForm.{is_first_expr, is_first_stm}
-use Rattle.kat_ast.specs.Formed.{is_formed_expr, is_formed_stm}
+use Rattle.kat_ast.specs.Expressions.{is_formed_expr}
+use Rattle.kat_ast.specs.Statements.{is_formed_stm}
 use Rattle.kat_syntax.specs.Runnable.{IsFirstForm}
 use Rattle.kat_syntax.specs.Typing.{Scope, known_of_expr, known_of_stm, declared_by}
 use Rattle.kat_syntax.specs.Machine.{MachineState, Progress}

@@ -6,8 +6,8 @@ use Rattle.kat_value.specs.declared.types.Ty.TheVariants.{Unit as unit, Bool as 
 use Rattle.kat_value.specs.declared.value.Value.{Value}
 use Rattle.kat_value.specs.Typing.{HasType}
 use Rattle.kat_ast.specs.Spec.{Spec}
-use Rattle.kat_ast.specs.declared.decl.TypeName.{TypeName}
-use Rattle.kat_ast.specs.declared.decl.TypeName.TheVariants.{Unit as UnitName, Bool as BoolName, Bits as BitsName, Named}
+use Rattle.kat_ast.specs.declared.type_name.TypeName.{TypeName}
+use Rattle.kat_ast.specs.declared.type_name.TypeName.TheVariants.{Unit as UnitName, Bool as BoolName, Bits as BitsName, Named}
 use Rattle.kat_syntax.specs.Tables.{Name, RegisterDecl, registers_of}
 use Rattle.kat_syntax.specs.Machine.{MachineState}
 use Rattle.kat_syntax.specs.Cycle.{register_names}

@@ -5,13 +5,16 @@ use Rattle.std.specs.Fmt.{decimal}
 use Rattle.kat_tree.specs.declared.tree.Tree.{Tree}
 use Rattle.kat_tree.specs.declared.tree.Tree.TheVariants as tree
 use Rattle.kat_tree.specs.Written.{text_of_tree}
-use Rattle.kat_ast.specs.declared.decl.TypeName.{TypeName}
-use Rattle.kat_ast.specs.declared.decl.TypeName.TheVariants as t
-use Rattle.kat_ast.specs.declared.decl.Param.{Param}
+use Rattle.kat_ast.specs.declared.type_name.TypeName.{TypeName}
+use Rattle.kat_ast.specs.declared.type_name.TypeName.TheVariants as t
+use Rattle.kat_ast.specs.declared.type_name.Param.{Param}
 use Rattle.kat_ast.specs.declared.assertion.Assertion.{Assertion}
 use Rattle.kat_ast.specs.declared.assertion.Assertion.TheOpen.{Assertion-F, Pure, Register, Cell, Star, If, Exists, Predicate, Region}
 use Rattle.kat_ast.specs.declared.assertion.Assertion.TheFolds.{map-Assertion, fold-roll-Assertion, ind-Assertion}
-use Rattle.kat_ast.specs.Written.{word, number, tree_of_type, tree_of_param, tree_of_params, tree_of_expr, assertion_tree, tree_of_assertion}
+use Rattle.kat_ast.specs.Parts.{word, number}
+use Rattle.kat_ast.specs.Types.{tree_of_type, tree_of_param, tree_of_params}
+use Rattle.kat_ast.specs.Expressions.{tree_of_expr}
+use Rattle.kat_ast.specs.Assertions.{assertion_tree, tree_of_assertion}
 use Rattle.kat_print.specs.Texts.{bracketed, listed, text_of_type, text_of_param, text_of_params, text_of_expr, assertion_text, text_of_assertion}
 use Rattle.kat_print.proofs.Forms.{of_word, of_number, of_list, of_one, of_two, of_all, both, pair, three, named}
 use Rattle.kat_print.proofs.ExprText.{of_expr, of_exprs}

@@ -12,8 +12,13 @@ use Rattle.kat_ast.specs.declared.decl.When.{When}
 use Rattle.kat_ast.specs.declared.decl.DeclForm.{DeclForm}
 use Rattle.kat_ast.specs.declared.decl.DeclForm.TheVariants as d
 use Rattle.kat_ast.specs.Spec.{Spec}
-use Rattle.kat_ast.specs.Written.{word, number, form, tree_of_type, tree_of_params, tree_of_expr, tree_of_stm, tree_of_assertion, tree_of_phase, tree_of_when, word_of_register_kind, word_of_cells_kind, holding, tree_of_decl}
-use Rattle.kat_ast.specs.Describes.{tree_of_spec}
+use Rattle.kat_ast.specs.Parts.{word, number, form}
+use Rattle.kat_ast.specs.Types.{tree_of_type, tree_of_params}
+use Rattle.kat_ast.specs.Expressions.{tree_of_expr}
+use Rattle.kat_ast.specs.Statements.{tree_of_stm}
+use Rattle.kat_ast.specs.Assertions.{tree_of_assertion}
+use Rattle.kat_ast.specs.Declarations.{tree_of_phase, tree_of_when, word_of_register_kind, word_of_cells_kind, holding, tree_of_decl}
+use Rattle.kat_ast.specs.Specifications.{tree_of_spec}
 use Rattle.kat_print.specs.Texts.{bracketed, listed, text_of_type, text_of_params, text_of_expr, text_of_stm, text_of_assertion, text_of_phase, text_of_when, text_holding, text_of_decl, text_of_spec}
 use Rattle.kat_print.proofs.Forms.{of_word, of_number, of_list, of_one, of_two, of_more, of_all, both, three, named, words, numbers}
 use Rattle.kat_print.proofs.ExprText.{of_expr}

@@ -9,7 +9,9 @@ use Rattle.kat_value.specs.declared.op.Op.TheVariants as op
 use Rattle.kat_ast.specs.declared.expr.Expr.{Expr}
 use Rattle.kat_ast.specs.declared.expr.Expr.TheOpen.{Expr-F, Name, Unit, Truth, Bits, Of, Make, Rec, Register, Kept, KeptCell, Before, After, BeforeCell, AfterCell, Apply, Get}
 use Rattle.kat_ast.specs.declared.expr.Expr.TheFolds.{map-Expr, fold-roll-Expr, ind-Expr}
-use Rattle.kat_ast.specs.Written.{word, number, form, word_of_op, numbers_before, expr_tree, tree_of_expr}
+use Rattle.kat_value.specs.Words.{word_of_op}
+use Rattle.kat_ast.specs.Parts.{word, number, form}
+use Rattle.kat_ast.specs.Expressions.{numbers_before, expr_tree, tree_of_expr}
 use Rattle.kat_print.specs.Texts.{listed, number_texts, text_of_op, expr_text, text_of_expr}
 use Rattle.kat_print.proofs.Spaces.{behind_spaces-append}
 use Rattle.kat_print.proofs.Forms.{of_word, of_number, of_form, of_one, of_two, of_more, both}

@@ -9,7 +9,7 @@ use Rattle.kat_tree.specs.declared.tree.Tree.TheVariants.{rolls-Atom, rolls-List
 use Rattle.kat_tree.specs.declared.tree.Tree.TheOpen.{Tree-F}
 use Rattle.kat_tree.specs.declared.tree.Tree.TheFolds.{fold-roll-Tree}
 use Rattle.kat_tree.specs.Written.{text_in, text_of_token, text_of_tree}
-use Rattle.kat_ast.specs.Written.{word, number, form}
+use Rattle.kat_ast.specs.Parts.{word, number, form}
 use Rattle.kat_print.specs.Texts.{bracketed, listed}
 
 text_of-Atom : (token : Token) → text_of_tree (tree.Atom token) ≡ text_of_token token

@@ -10,7 +10,9 @@ use Rattle.kat_ast.specs.declared.stm.MatchArm.{MatchArm}
 use Rattle.kat_ast.specs.declared.stm.Stm.TheShapes.{former-Stm-Case-1-at-2 as case_arm, former-Stm-Match-1-at-3 as match_arm}
 use Rattle.kat_ast.specs.declared.stm.Stm.TheOpen.{Stm-F, Ret, Let, Seq, If, Case, Match, Read, Write, Load, Store, Call, Check, Fail, Open, Close, Lemma}
 use Rattle.kat_ast.specs.declared.stm.Stm.TheFolds.{map-Stm, fold-roll-Stm, ind-Stm}
-use Rattle.kat_ast.specs.Written.{word, tree_of_expr, tree_of_case_arm, tree_of_match_arm, stm_tree, tree_of_stm}
+use Rattle.kat_ast.specs.Parts.{word}
+use Rattle.kat_ast.specs.Expressions.{tree_of_expr}
+use Rattle.kat_ast.specs.Statements.{tree_of_case_arm, tree_of_match_arm, stm_tree, tree_of_stm}
 use Rattle.kat_print.specs.Texts.{listed, text_of_expr, text_of_case_arm, text_of_match_arm, stm_text, text_of_stm}
 use Rattle.kat_print.proofs.Forms.{of_word, of_form, of_one, of_two, of_more, of_all, both, pair, triple, three, named}
 use Rattle.kat_print.proofs.ExprText.{of_expr, of_exprs}

@@ -10,7 +10,8 @@ use Rattle.kat_ast.specs.declared.stm.Stm.TheOpen.{Stm-F, Let, Seq, If, Case, Ma
 use Rattle.kat_ast.specs.declared.stm.Stm.TheVariants as stm
 use Rattle.kat_ast.specs.declared.stm.Stm.TheViews.{out-Stm, outs-Let, outs-Seq, outs-If, outs-Case, outs-Match}
 use Rattle.kat_ast.specs.declared.stm.Stm.TheFolds.{map-Stm, fold_out-Stm}
-use Rattle.kat_ast.specs.Trees.{trees_of_expr, trees_of_case_arm, trees_of_match_arm, stm_trees, trees_of_stm}
+use Rattle.kat_ast.specs.Expressions.{trees_of_expr}
+use Rattle.kat_ast.specs.Statements.{trees_of_case_arm, trees_of_match_arm, stm_trees, trees_of_stm}
 
 abbrev pub trees_of_stms : List Stm → ℕ
 trees_of_stms parts = sum_by trees_of_stm parts

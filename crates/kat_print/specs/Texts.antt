@@ -16,16 +16,17 @@ use Rattle.kat_ast.specs.declared.stm.Stm.TheFolds.{fold-Stm}
 use Rattle.kat_ast.specs.declared.assertion.Assertion.{Assertion}
 use Rattle.kat_ast.specs.declared.assertion.Assertion.TheOpen as a
 use Rattle.kat_ast.specs.declared.assertion.Assertion.TheFolds.{fold-Assertion}
-use Rattle.kat_ast.specs.declared.decl.TypeName.{TypeName}
-use Rattle.kat_ast.specs.declared.decl.TypeName.TheVariants as t
-use Rattle.kat_ast.specs.declared.decl.Param.{Param}
+use Rattle.kat_ast.specs.declared.type_name.TypeName.{TypeName}
+use Rattle.kat_ast.specs.declared.type_name.TypeName.TheVariants as t
+use Rattle.kat_ast.specs.declared.type_name.Param.{Param}
 use Rattle.kat_ast.specs.declared.decl.Phase.{Phase}
 use Rattle.kat_ast.specs.declared.decl.Phase.TheVariants as p
 use Rattle.kat_ast.specs.declared.decl.When.{When}
 use Rattle.kat_ast.specs.declared.decl.DeclForm.{DeclForm}
 use Rattle.kat_ast.specs.declared.decl.DeclForm.TheVariants as d
 use Rattle.kat_ast.specs.Spec.{Spec}
-use Rattle.kat_ast.specs.Written.{word_of_op, word_of_register_kind, word_of_cells_kind}
+use Rattle.kat_value.specs.Words.{word_of_op}
+use Rattle.kat_ast.specs.Declarations.{word_of_register_kind, word_of_cells_kind}
 
 -- a list of these parts
 abbrev pub bracketed : List (List ℕ) → List ℕ

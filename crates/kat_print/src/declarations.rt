@@ -4,7 +4,7 @@ ghost use Rattle.std.specs.Prelude.{◌≡◌, ◌++◌, [], ◌∷◌, map, cod
 ghost use Rattle.std.specs.Fmt.{decimal};
 ghost use Rattle.kat_tree.specs.Written.{behind_spaces};
 ghost use Rattle.kat_ast.specs.declared.decl.DeclForm.TheVariants as form;
-ghost use Rattle.kat_ast.specs.Written.{word_of_register_kind, word_of_cells_kind};
+ghost use Rattle.kat_ast.specs.Declarations.{word_of_register_kind, word_of_cells_kind};
 ghost use Rattle.kat_print.specs.Texts.{listed, text_of_params, text_of_phase, text_of_when, text_of_expr, text_of_stm, text_holding, text_of_decl, text_of_spec};
 
 use crate::assertions::{put_assertion_part, put_holding, put_holding_part};

@@ -3,7 +3,7 @@
 ghost use Rattle.std.specs.Prelude.{◌≡◌, ◌++◌, [], ◌∷◌, map, codes, OnOk};
 ghost use Rattle.std.specs.Fmt.{decimal};
 ghost use Rattle.kat_tree.specs.Written.{behind_spaces};
-ghost use Rattle.kat_ast.specs.Written.{word_of_op};
+ghost use Rattle.kat_value.specs.Words.{word_of_op};
 ghost use Rattle.kat_print.specs.Texts.{listed, number_texts, text_of_op, text_of_expr};
 
 use crate::printed::Printed;

@@ -2,8 +2,7 @@
 
 ghost use Rattle.std.specs.Prelude.{◌≡◌};
 ghost use Rattle.kat_ast.specs.Spec.{Spec};
-ghost use Rattle.kat_ast.specs.WellFormed.{IsSpec};
-ghost use Rattle.kat_ast.specs.Describes.{Reads, canonical_text};
+ghost use Rattle.kat_ast.specs.Specifications.{IsSpec, Reads, canonical_text};
 
 use kat_ast::{one_reading, specifications_can_be_written};
 use kat_tree::written_is_spelled;

@@ -3,7 +3,7 @@
 ghost use Rattle.std.specs.Prelude.{◌≡◌, ◌++◌, IfOk, OnOk};
 ghost use Rattle.std.specs.String.{string_bytes};
 ghost use Rattle.kat_tree.specs.Written.{text_of_tree};
-ghost use Rattle.kat_ast.specs.Describes.{tree_of_spec, canonical_text};
+ghost use Rattle.kat_ast.specs.Specifications.{tree_of_spec, canonical_text};
 
 use crate::declarations::put_spec;
 use crate::printed::Printed;

@@ -3,15 +3,17 @@ use Rattle.std.proofs.Common.{◌≡◌, ℕ, zero, suc, ◌+◌, ◌<◌, ◌^�
 use Rattle.std.specs.Prelude.{option_and_then, slice_get}
 use Rattle.std.proofs.lemmas.Option.{slice_get_read}
 use Rattle.kat_ast.specs.declared.stm.Stm.{Stm}
-use Rattle.kat_ast.specs.declared.decl.TypeName.{TypeName}
-use Rattle.kat_ast.specs.declared.decl.TypeName.TheVariants as type
-use Rattle.kat_ast.specs.declared.decl.Param.{Param}
+use Rattle.kat_ast.specs.declared.type_name.TypeName.{TypeName}
+use Rattle.kat_ast.specs.declared.type_name.TypeName.TheVariants as type
+use Rattle.kat_ast.specs.declared.type_name.Param.{Param}
 use Rattle.kat_ast.specs.declared.decl.DeclForm.{DeclForm}
 use Rattle.kat_ast.specs.declared.decl.DeclForm.TheVariants.{Fun}
 use Rattle.kat_syntax.specs.Tables.{Name, function_at}
 use Rattle.kat_syntax.specs.FirstForm.{is_first_stm, is_first_decl, are_first_decls}
-use Rattle.kat_ast.specs.Trees.{capped, trees_of_type, trees_of_params, trees_of_stm, trees_of_decl}
-use Rattle.kat_ast.specs.WellFormed.{IsDecl}
+use Rattle.kat_ast.specs.Parts.{capped}
+use Rattle.kat_ast.specs.Types.{trees_of_type, trees_of_params}
+use Rattle.kat_ast.specs.Statements.{trees_of_stm}
+use Rattle.kat_ast.specs.Declarations.{trees_of_decl, IsDecl}
 use Rattle.kat_syntax.specs.Checked.{declared_at}
 use Rattle.kat_ast.proofs.DeclCount.{decl_counted}
 

@@ -11,7 +11,8 @@ use Rattle.kat_ast.specs.declared.stm.Stm.TheViews.{out-Stm, outs-Let, outs-If}
 use Rattle.kat_ast.specs.declared.stm.Stm.TheVariants.{Let as LetStm, If as IfStm}
 use Rattle.kat_ast.specs.declared.stm.Stm.TheFolds.{map-Stm, fold-Stm, fold-roll-Stm, fold_out-Stm, ind-Stm}
 use Rattle.kat_syntax.specs.Tables.{Name}
-use Rattle.kat_ast.specs.Trees.{trees_of_expr, trees_of_case_arm, trees_of_match_arm, stm_trees, trees_of_stm}
+use Rattle.kat_ast.specs.Expressions.{trees_of_expr}
+use Rattle.kat_ast.specs.Statements.{trees_of_case_arm, trees_of_match_arm, stm_trees, trees_of_stm}
 use Rattle.kat_syntax.specs.Machine.{Progress}
 use Rattle.kat_syntax.specs.Meaning.{Locals, Outcome, then_do, inside, is_true, value_of_expr, Calls, Part, part_of, meaning}
 use Rattle.kat_syntax.specs.MeaningByParts.{LetByParts, IfByParts}

@@ -2,7 +2,7 @@
 use Rattle.std.specs.Prelude.{◌≡◌, ◌<◌, ◌^◌, ℕ, List, [], IsSome, Option, Some, option_and_then, slice_get, unwrap_or}
 use Rattle.kat_ast.specs.Spec.{Spec}
 use Rattle.kat_ast.specs.declared.decl.DeclForm.{DeclForm}
-use Rattle.kat_ast.specs.declared.decl.Param.{Param}
+use Rattle.kat_ast.specs.declared.type_name.Param.{Param}
 use Rattle.kat_ast.specs.declared.stm.Stm.{Stm}
 use Rattle.kat_syntax.specs.Tables.{Name, Function, function_at, function_from, step_of}
 use Rattle.kat_syntax.specs.Runnable.{IsFirstForm}

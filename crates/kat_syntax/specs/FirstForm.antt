@@ -8,11 +8,11 @@ use Rattle.kat_ast.specs.declared.expr.Expr.TheFolds.{fold-Expr}
 use Rattle.kat_ast.specs.declared.stm.Stm.{Stm}
 use Rattle.kat_ast.specs.declared.stm.Stm.TheOpen.{Stm-F, Ret, Let, If, Read, Write, Fail}
 use Rattle.kat_ast.specs.declared.stm.Stm.TheFolds.{fold-Stm}
-use Rattle.kat_ast.specs.declared.decl.TypeName.TheVariants.{Unit as UnitName, Bits as BitsName}
+use Rattle.kat_ast.specs.declared.type_name.TypeName.TheVariants.{Unit as UnitName, Bits as BitsName}
 use Rattle.kat_ast.specs.declared.decl.RegisterKind.TheVariants.{Plain}
 use Rattle.kat_ast.specs.declared.decl.DeclForm.{DeclForm}
 use Rattle.kat_ast.specs.declared.decl.DeclForm.TheVariants.{Register, Fun, Step}
-use Rattle.kat_ast.specs.Formed.{every}
+use Rattle.kat_ast.specs.Parts.{every}
 
 -- `eq`, `ult` and `add`
 abbrev pub is_first_op : Op → Bool

@@ -4,7 +4,8 @@ use Rattle.kat_ast.specs.declared.expr.Expr.{Expr}
 use Rattle.kat_ast.specs.declared.stm.Stm.{Stm}
 use Rattle.kat_ast.specs.declared.stm.Stm.TheVariants.{Let, If}
 use Rattle.kat_syntax.specs.Tables.{Name}
-use Rattle.kat_ast.specs.Trees.{trees_of_expr, trees_of_stm}
+use Rattle.kat_ast.specs.Expressions.{trees_of_expr}
+use Rattle.kat_ast.specs.Statements.{trees_of_stm}
 use Rattle.kat_syntax.specs.Machine.{Progress}
 use Rattle.kat_syntax.specs.Meaning.{Locals, Calls, then_do, inside, is_true, value_of_expr, meaning}
 

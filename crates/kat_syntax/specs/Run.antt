@@ -4,8 +4,8 @@ use Rattle.kat_value.specs.declared.value.Value.TheVariants.{Bits as Number}
 use Rattle.kat_value.specs.Operations.{is_number}
 use Rattle.kat_ast.specs.declared.place.Place.{Place}
 use Rattle.kat_ast.specs.Spec.{Spec}
-use Rattle.kat_ast.specs.declared.decl.TypeName.{TypeName}
-use Rattle.kat_ast.specs.declared.decl.TypeName.TheVariants.{Bits}
+use Rattle.kat_ast.specs.declared.type_name.TypeName.{TypeName}
+use Rattle.kat_ast.specs.declared.type_name.TypeName.TheVariants.{Bits}
 use Rattle.kat_ast.specs.declared.decl.RegisterKind.{RegisterKind}
 use Rattle.kat_ast.specs.declared.decl.RegisterKind.TheVariants.{Outside}
 use Rattle.kat_syntax.specs.Tables.{RegisterDecl, registers_of}

@@ -2,8 +2,8 @@
 use Rattle.std.specs.Prelude.{false, if◌then◌else◌, nat_le, [], map}
 use Rattle.kat_value.specs.declared.value.Value.{Value}
 use Rattle.kat_value.specs.declared.value.Value.TheVariants.{Unit as UnitValue, Bool as Truth, Bits as Number}
-use Rattle.kat_ast.specs.declared.decl.TypeName.{TypeName}
-use Rattle.kat_ast.specs.declared.decl.TypeName.TheVariants.{Bool, Bits}
+use Rattle.kat_ast.specs.declared.type_name.TypeName.{TypeName}
+use Rattle.kat_ast.specs.declared.type_name.TypeName.TheVariants.{Bool, Bits}
 use Rattle.kat_ast.specs.Spec.{Spec}
 use Rattle.kat_syntax.specs.Tables.{RegisterDecl, registers_of}
 use Rattle.kat_syntax.specs.Machine.{MachineState}

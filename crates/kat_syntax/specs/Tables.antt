@@ -1,13 +1,13 @@
 -- What the declarations of a specification name, in order of declaration.
 use Rattle.std.specs.Prelude.{ℕ, Bool, false, ◌+◌, if◌then◌else◌, List, [], ◌∷◌, Option, Some, None}
 use Rattle.std.specs.Str.{bytes_eq}
-use Rattle.kat_ast.specs.declared.decl.Param.{Param}
-use Rattle.kat_ast.specs.declared.decl.TypeName.{TypeName}
+use Rattle.kat_ast.specs.declared.type_name.Param.{Param}
+use Rattle.kat_ast.specs.declared.type_name.TypeName.{TypeName}
 use Rattle.kat_ast.specs.declared.decl.RegisterKind.{RegisterKind}
 use Rattle.kat_ast.specs.declared.decl.DeclForm.{DeclForm}
 use Rattle.kat_ast.specs.declared.decl.DeclForm.TheVariants.{Register, Fun, Step}
 use Rattle.kat_ast.specs.declared.stm.Stm.{Stm}
-use Rattle.kat_ast.specs.Trees.{trees_of_type, trees_of_params}
+use Rattle.kat_ast.specs.Types.{trees_of_type, trees_of_params}
 
 -- a name is the list of its bytes
 abbrev pub Name : Type 0

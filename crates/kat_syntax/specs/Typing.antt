@@ -15,12 +15,13 @@ use Rattle.kat_ast.specs.declared.expr.Expr.TheFolds.{map-Expr, fold-Expr}
 use Rattle.kat_ast.specs.declared.stm.Stm.{Stm}
 use Rattle.kat_ast.specs.declared.stm.Stm.TheOpen.{Stm-F, Ret, Let, If, Read, Write}
 use Rattle.kat_ast.specs.declared.stm.Stm.TheFolds.{map-Stm, fold-Stm}
-use Rattle.kat_ast.specs.declared.decl.TypeName.{TypeName}
-use Rattle.kat_ast.specs.declared.decl.TypeName.TheVariants.{Unit as UnitName, Bool as BoolName, Bits as BitsName}
+use Rattle.kat_ast.specs.declared.type_name.TypeName.{TypeName}
+use Rattle.kat_ast.specs.declared.type_name.TypeName.TheVariants.{Unit as UnitName, Bool as BoolName, Bits as BitsName}
 use Rattle.kat_ast.specs.declared.decl.DeclForm.{DeclForm}
 use Rattle.kat_ast.specs.declared.decl.DeclForm.TheVariants.{Register, Fun, Step}
 use Rattle.kat_ast.specs.Spec.{Spec}
-use Rattle.kat_ast.specs.Trees.{expr_trees, trees_of_expr, stm_trees}
+use Rattle.kat_ast.specs.Expressions.{expr_trees, trees_of_expr}
+use Rattle.kat_ast.specs.Statements.{stm_trees}
 use Rattle.kat_syntax.specs.Tables.{Name, RegisterDecl, registers_of, function_from}
 
 -- a fault inside a form: its tree, the form being tree 0, and the code of the condition

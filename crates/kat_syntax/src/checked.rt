@@ -2,7 +2,7 @@
 
 ghost use Rattle.std.specs.Prelude.{◌≡◌, ◌+◌, ◌<◌, ◌^◌, true, IfOk};
 ghost use Rattle.kat_names.specs.Names.{position_of};
-ghost use Rattle.kat_ast.specs.Trees.{trees_of_stm};
+ghost use Rattle.kat_ast.specs.Statements.{trees_of_stm};
 ghost use Rattle.kat_syntax.specs.FirstForm.{is_first_stm};
 ghost use Rattle.kat_syntax.specs.Runnable.{IsFirstForm};
 ghost use Rattle.kat_syntax.specs.Cycle.{register_names};

@@ -7,9 +7,8 @@ use Rattle.kat_tree.specs.Faults.{IsFirstFault}
 use Rattle.kat_ast.specs.declared.decl.DeclForm.{DeclForm}
 use Rattle.kat_ast.specs.Spec.{Spec}
 use Rattle.kat_syntax.specs.Machine.{MachineState}
-use Rattle.kat_ast.specs.Formed.{is_formed_decl}
-use Rattle.kat_ast.specs.WellFormed.{IsDecl}
-use Rattle.kat_ast.specs.Describes.{Reads}
+use Rattle.kat_ast.specs.Declarations.{is_formed_decl, IsDecl}
+use Rattle.kat_ast.specs.Specifications.{Reads}
 use Rattle.kat_syntax.specs.Runnable.{IsFirstForm}
 use Rattle.kat_forms.specs.declared.sort.Sort.TheVariants as sort
 use Rattle.kat_forms.specs.declared.misfit.Misfit.{Misfit}

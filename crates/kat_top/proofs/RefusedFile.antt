@@ -2,7 +2,7 @@
 use Rattle.std.proofs.Common.{◌≡◌, ℕ, ◌≤◌, ◌<◌, inl, inr, List, length, Option, Some, Result, Err, refl, subst, arith}
 use Rattle.kat_ast.specs.Spec.{Spec}
 use Rattle.kat_syntax.specs.Tables.{Name}
-use Rattle.kat_ast.specs.Describes.{Reads}
+use Rattle.kat_ast.specs.Specifications.{Reads}
 use Rattle.kat_syntax.specs.Runnable.{IsFirstForm}
 use Rattle.kat_top.specs.declared.status.Status.{Status}
 use Rattle.kat_top.specs.declared.status.Status.TheVariants as status

@@ -9,7 +9,7 @@ use Rattle.kat_syntax.specs.Run.{Cycle, Run, RunEnd, Ended, OutIn, FailedIn, run
 use Rattle.kat_syntax.specs.StateText.{newline, state_text_of}
 use Rattle.kat_top.specs.declared.status.Status.{Status}
 use Rattle.kat_top.specs.declared.status.Status.TheVariants as status
-use Rattle.kat_ast.specs.Describes.{canonical_text}
+use Rattle.kat_ast.specs.Specifications.{canonical_text}
 use Rattle.kat_top.specs.declared.refusal.Refusal.{Refusal}
 use Rattle.kat_top.specs.declared.refusal.Refusal.TheVariants.{Failed, Long, Tree, Form, Unbuilt, Memory}
 use Rattle.kat_top.specs.Refusals.{tree_line, form_line}

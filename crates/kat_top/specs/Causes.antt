@@ -4,7 +4,7 @@ use Rattle.kat_io.specs.Contents.{with_bytes}
 use Rattle.kat_ast.specs.Spec.{Spec}
 use Rattle.kat_syntax.specs.Tables.{Name}
 use Rattle.kat_syntax.specs.Machine.{MachineState}
-use Rattle.kat_ast.specs.Describes.{Reads}
+use Rattle.kat_ast.specs.Specifications.{Reads}
 use Rattle.kat_syntax.specs.Runnable.{IsFirstForm}
 use Rattle.kat_image.specs.Image.{IsImageOf}
 use Rattle.kat_top.specs.declared.status.Status.{Status}

@@ -5,7 +5,7 @@ use Rattle.kat_tree.specs.declared.error.TreeError.{TreeError}
 use Rattle.kat_tree.specs.Faults.{Owes}
 use Rattle.kat_ast.specs.Spec.{Spec}
 use Rattle.kat_syntax.specs.Machine.{MachineState}
-use Rattle.kat_ast.specs.Describes.{Describes, Reads}
+use Rattle.kat_ast.specs.Specifications.{Describes, Reads}
 use Rattle.kat_forms.specs.declared.sort.Sort.TheVariants as sort
 use Rattle.kat_forms.specs.Fits.{fits}
 use Rattle.kat_image.specs.Image.{IsImageOf}

@@ -6,7 +6,7 @@ use Rattle.kat_tree.specs.Spelling.{Spells}
 use Rattle.kat_tree.specs.Faults.{IsFirstFault}
 use Rattle.kat_ast.specs.Spec.{Spec}
 use Rattle.kat_syntax.specs.Machine.{MachineState}
-use Rattle.kat_ast.specs.Describes.{Reads}
+use Rattle.kat_ast.specs.Specifications.{Reads}
 use Rattle.kat_syntax.specs.Runnable.{IsFirstForm}
 use Rattle.kat_forms.specs.Reading.{IsFirstMisfit}
 use Rattle.kat_image.specs.Image.{IsImageOf}

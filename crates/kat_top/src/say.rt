@@ -4,7 +4,7 @@ ghost use Rattle.std.specs.Prelude.{◌≡◌, ◌≤◌, ◌++◌, ℕ, List, I
 ghost use Rattle.std.specs.Fmt.{decimal};
 ghost use Rattle.kat_io.specs.Counts.{Rose};
 ghost use Rattle.kat_syntax.specs.Run.{OutIn, FailedIn};
-ghost use Rattle.kat_ast.specs.Describes.{canonical_text};
+ghost use Rattle.kat_ast.specs.Specifications.{canonical_text};
 ghost use Rattle.kat_syntax.specs.StateText.{newline, end_piece};
 ghost use Rattle.kat_top.specs.Answer.{Gave, IfWriteFault, IsPlain, refusal_of};
 ghost use Rattle.kat_top.specs.Refusals.{word_of_kind, word_of_wanted, tree_line, form_line};

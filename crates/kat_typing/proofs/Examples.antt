@@ -10,7 +10,7 @@ use Rattle.kat_ast.specs.declared.stm.Stm.{Stm}
 use Rattle.kat_ast.specs.declared.stm.Stm.TheOpen.{Stm-F, Ret, Let, If, Read, Write}
 use Rattle.kat_ast.specs.declared.stm.Stm.TheViews.{roll-Stm}
 use Rattle.kat_ast.specs.declared.stm.Stm.TheFolds.{map-Stm, fold-roll-Stm}
-use Rattle.kat_ast.specs.Trees.{expr_trees, trees_of_expr}
+use Rattle.kat_ast.specs.Expressions.{expr_trees, trees_of_expr}
 use Rattle.kat_syntax.specs.Typing.{Declared, Scope, Known, Fault, inside, expr_known, known_of_expr, stm_known, known_of_stm}
 
 -- the names n, a and f

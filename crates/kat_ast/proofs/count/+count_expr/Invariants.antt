@@ -1,5 +1,6 @@
 use Rattle.std.proofs.Common.{◌≡◌, ◌<◌, ◌^◌, ◌+◌, drop, sum, map}
-use Rattle.kat_ast.specs.Trees.{capped, trees_of_expr}
+use Rattle.kat_ast.specs.Parts.{capped}
+use Rattle.kat_ast.specs.Expressions.{trees_of_expr}
 use Rattle.kat_ast.proofs.count.+count_expr.Given as goal
 
 abbrev pub invariant-loop-arg : goal.invariant-loop-arg

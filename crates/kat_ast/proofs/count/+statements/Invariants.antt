@@ -1,5 +1,6 @@
 use Rattle.std.proofs.Common.{◌≡◌, ◌<◌, ◌^◌, ◌+◌, drop}
-use Rattle.kat_ast.specs.Trees.{capped, trees_of_stms, trees_of_case_arms, trees_of_match_arms}
+use Rattle.kat_ast.specs.Parts.{capped}
+use Rattle.kat_ast.specs.Statements.{trees_of_stms, trees_of_case_arms, trees_of_match_arms}
 use Rattle.kat_ast.proofs.count.+statements.Given as goal
 
 abbrev pub invariant-count_stms-loop-stm : goal.invariant-count_stms-loop-stm

@@ -1,5 +1,6 @@
 use Rattle.std.proofs.Common.{◌≡◌, ◌<◌, ◌^◌, ◌+◌, drop, sum_by}
-use Rattle.kat_ast.specs.Trees.{capped, trees_of_expr, trees_of_exprs}
+use Rattle.kat_ast.specs.Parts.{capped}
+use Rattle.kat_ast.specs.Expressions.{trees_of_expr, trees_of_exprs}
 use Rattle.kat_ast.proofs.count.count_exprs.Given as goal
 
 abbrev pub invariant-loop-expr : goal.invariant-loop-expr

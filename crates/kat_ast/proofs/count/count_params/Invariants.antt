@@ -1,5 +1,6 @@
 use Rattle.std.proofs.Common.{◌≡◌, ◌<◌, ◌^◌, ◌+◌, drop, sum_by}
-use Rattle.kat_ast.specs.Trees.{capped, trees_of_param, trees_of_params}
+use Rattle.kat_ast.specs.Parts.{capped}
+use Rattle.kat_ast.specs.Types.{trees_of_param, trees_of_params}
 use Rattle.kat_ast.proofs.count.count_params.Given as goal
 
 abbrev pub invariant-loop-param : goal.invariant-loop-param

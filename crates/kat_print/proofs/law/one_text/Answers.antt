@@ -1,5 +1,5 @@
 use Rattle.std.proofs.Common.{subst, sym}
-use Rattle.kat_ast.specs.Describes.{Reads, canonical_text}
+use Rattle.kat_ast.specs.Specifications.{Reads, canonical_text}
 use Rattle.kat_print.proofs.law.one_text.Goals as goal
 
 -- the one text is read as both

@@ -1,5 +1,5 @@
 use Rattle.std.proofs.Common.{refl}
-use Rattle.kat_ast.specs.Describes.{tree_of_spec}
+use Rattle.kat_ast.specs.Specifications.{tree_of_spec}
 use Rattle.kat_print.proofs.law.reads_back.Goals as goal
 
 -- the tree that the text spells is that of the specification

@@ -1,5 +1,5 @@
 use Rattle.std.proofs.Common.{refl, ap, arith}
-use Rattle.kat_ast.specs.Trees.{trees_of_stm}
+use Rattle.kat_ast.specs.Statements.{trees_of_stm}
 use Rattle.kat_print.proofs.StmTrees.{trees_of_stms, in_case_arm, in_match_arm, trees-Let, trees-If, trees-Seq, trees-Case, trees-Match, among}
 use Rattle.kat_print.proofs.statements.+stm.Goals as goal
 

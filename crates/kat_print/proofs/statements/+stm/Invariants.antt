@@ -1,6 +1,6 @@
 use Rattle.std.proofs.Common.{◌≡◌, ◌+◌, ◌*◌, ◌++◌, drop, map, sum_by}
 use Rattle.kat_tree.specs.Written.{behind_spaces}
-use Rattle.kat_ast.specs.Trees.{trees_of_stm}
+use Rattle.kat_ast.specs.Statements.{trees_of_stm}
 use Rattle.kat_print.specs.Texts.{case_arm_texts, match_arm_texts, text_of_stm}
 use Rattle.kat_print.proofs.StmTrees.{trees_of_stms, in_case_arm, in_match_arm}
 use Rattle.kat_print.proofs.statements.+stm.Given as goal

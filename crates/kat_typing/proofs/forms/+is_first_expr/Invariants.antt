@@ -1,5 +1,5 @@
 use Rattle.std.proofs.Common.{◌≡◌, drop, map}
-use Rattle.kat_ast.specs.Formed.{every}
+use Rattle.kat_ast.specs.Parts.{every}
 use Rattle.kat_syntax.specs.FirstForm.{is_first_expr}
 use Rattle.kat_typing.proofs.forms.+is_first_expr.Given as goal
 

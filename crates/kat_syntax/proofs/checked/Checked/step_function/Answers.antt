@@ -1,5 +1,5 @@
 use Rattle.std.proofs.Common.{refl, sym, ◌∙◌, arith}
-use Rattle.kat_ast.specs.Trees.{trees_of_type}
+use Rattle.kat_ast.specs.Types.{trees_of_type}
 use Rattle.kat_syntax.proofs.Firsts.{body_first_at, is_function_at, body_place, function_is_at}
 use Rattle.kat_syntax.proofs.checked.Checked.step_function.Goals as goal
 
