@@ -1,6 +1,6 @@
 -- What a tree is read as: what takes the tree of a form back to the form.
 use Rattle.std.proofs.Common.{◌≡◌, ℕ, List, [], ◌∷◌, map, cond, true, false, sym, ap, ◌∙◌}
-use Rattle.std.specs.Prelude.{codes, bytes_eq}
+use Rattle.std.specs.Prelude.{codes, bytes_eq, Option, None, Some}
 use Rattle.kat_tree.specs.declared.tree.Token.TheVariants.{Number as NumberToken, Name as NameToken}
 use Rattle.kat_tree.specs.declared.tree.Tree.{Tree}
 use Rattle.kat_tree.specs.declared.tree.Tree.TheVariants as tree
@@ -9,6 +9,7 @@ use Rattle.kat_tree.specs.declared.tree.Tree.TheOpen.{Tree-F}
 use Rattle.kat_tree.specs.declared.tree.Tree.TheFolds.{fold-Tree, fold-roll-Tree}
 use Rattle.kat_value.specs.declared.op.Op.{Op}
 use Rattle.kat_value.specs.declared.op.Op.TheVariants as op
+use Rattle.kat_value.specs.Words.{numbers_of_op, with_numbers, op_of_word}
 use Rattle.kat_ast.specs.declared.expr.Expr.{Expr}
 use Rattle.kat_ast.specs.declared.expr.Expr.TheOpen as e
 use Rattle.kat_ast.specs.declared.expr.Expr.TheViews.{roll-Expr}
@@ -149,36 +150,26 @@ register_kind_by w = choose w ((codes "plain", r.Plain) ∷ (codes "protected", 
 abbrev pub cells_kind_by : List ℕ → CellsKind
 cells_kind_by w = choose w ((codes "protected", c.Protected) ∷ []) c.Outside
 
-abbrev op_by : List ℕ → List Decoded → Op
-op_by w ds = choose w
-    ((codes "not", op.Not)
-    ∷ (codes "and", op.And)
-    ∷ (codes "or", op.Or)
-    ∷ (codes "eq", op.Eq)
-    ∷ (codes "ult", op.Ult)
-    ∷ (codes "ule", op.Ule)
-    ∷ (codes "slt", op.Slt)
-    ∷ (codes "sle", op.Sle)
-    ∷ (codes "add", op.Add)
-    ∷ (codes "sub", op.Sub)
-    ∷ (codes "mul", op.Mul)
-    ∷ (codes "band", op.Band)
-    ∷ (codes "bor", op.Bor)
-    ∷ (codes "bxor", op.Bxor)
-    ∷ (codes "bnot", op.Bnot)
-    ∷ (codes "shl", op.Shl)
-    ∷ (codes "shr", op.Shr)
-    ∷ (codes "sar", op.Sar)
-    ∷ (codes "cat", op.Cat)
-    ∷ (codes "ite", op.Ite)
-    ∷ (codes "slice", op.Slice (first ds).number (second ds).number)
-    ∷ (codes "zext", op.Zext (first ds).number)
-    ∷ (codes "sext", op.Sext (first ds).number)
-    ∷ []) (op.Not)
+abbrev or_not : Option Op → Op
+or_not None = op.Not
+or_not (Some o) = o
+
+-- as many numbers as these, from the first parts on
+abbrev numbers_from : List ℕ → List Decoded → List ℕ
+numbers_from [] ds = []
+numbers_from (n ∷ ns) ds = (first ds).number ∷ numbers_from ns (rest ds)
+
+-- what stands behind as many parts
+abbrev behind : List ℕ → List Decoded → List Decoded
+behind [] ds = ds
+behind (n ∷ ns) ds = behind ns (rest ds)
 
 -- the arguments stand behind the numbers
-abbrev args_by : List ℕ → List Decoded → List Expr
-args_by w ds = choose w ((codes "slice", exprs (rest (rest ds))) ∷ (codes "zext", exprs (rest ds)) ∷ (codes "sext", exprs (rest ds)) ∷ []) (exprs ds)
+abbrev applied : Op → List Decoded → Expr
+applied o ds = roll-Expr (e.Apply (with_numbers o (numbers_from (numbers_of_op o) ds)) (exprs (behind (numbers_of_op o) ds)))
+
+unfoldable pub applied_by : List ℕ → List Decoded → Expr
+applied_by w ds = applied (or_not (op_of_word w)) ds
 
 unfoldable pub expr_by : List ℕ → List Decoded → Expr
 expr_by w ds = choose w
@@ -194,7 +185,7 @@ expr_by w ds = choose w
     ∷ (codes "before_cell", roll-Expr (e.BeforeCell (first ds).number))
     ∷ (codes "after_cell", roll-Expr (e.AfterCell (first ds).number))
     ∷ (codes "get", roll-Expr (e.Get (first ds).word (second ds).word (third ds).expr))
-    ∷ []) (roll-Expr (e.Apply (op_by w ds) (args_by w ds)))
+    ∷ []) (applied_by w ds)
 
 unfoldable pub stm_by : List ℕ → List Decoded → Stm
 stm_by w ds = choose w

@@ -1,6 +1,10 @@
+pub mod Limits
 pub mod Spec
-pub mod Trees
-pub mod Written
-pub mod Formed
-pub mod WellFormed
-pub mod Describes
+pub mod Parts
+pub mod Types
+pub mod Expressions
+pub mod Statements
+pub mod Assertions
+pub mod Declarations
+pub mod Specifications
+pub mod Laws

@@ -1,7 +1,7 @@
-// Assertions.
+//! Assertions.
 
-use crate::decl::TypeName;
 use crate::expr::Expr;
+use crate::type_name::TypeName;
 use kat_text::Text;
 use sqlite_items::{Boxed, Items};
 

@@ -1,31 +1,14 @@
-// Declarations, and the specification that they make.
+//! Declarations, and the specification that they make.
 
 ghost use Rattle.std.specs.Prelude.{◌≡◌};
 
 use crate::assertion::Assertion;
 use crate::expr::Expr;
 use crate::stm::Stm;
+use crate::type_name::{Param, TypeName};
 use kat_text::Text;
 use sqlite_items::Items;
 use std::marker::Model;
-
-/// A type as it is written.
-#[derive(Drop)]
-pub enum TypeName {
-    Unit,
-    Bool,
-    /// `(bits n)`
-    Bits(u64),
-    /// A declared type.
-    Named(Text),
-}
-
-/// A name with its type, `(x T)`: a parameter, a constructor with its payload, a field.
-#[derive(Drop)]
-pub struct Param {
-    pub name: Text,
-    pub ty: TypeName,
-}
 
 /// Who may change a register.
 #[derive(Clone, Copy, Debug, PartialEq, Eq, Drop)]

@@ -1,7 +1,14 @@
-// Expressions.
+//! Expressions, and how many trees each has: itself and all that stands in it, lists and atoms alike.
+//! The place of a form in its declaration is told by the counts of what stands before it, so no form
+//! stores its place. Counts stand still at the greatest u32, which no declaration comes near.
+
+ghost use Rattle.std.specs.Prelude.{◌≡◌, length};
+ghost use Rattle.kat_value.specs.Words.{numbers_of_op};
+ghost use Rattle.kat_ast.specs.Parts.{capped};
+ghost use Rattle.kat_ast.specs.Expressions.{trees_of_expr, trees_of_exprs};
 
 use kat_text::Text;
-use kat_value::Op;
+use kat_value::{Op, OpNumbers, numbers_of_op};
 use sqlite_items::{Boxed, Items};
 
 /// An expression, one variant for each form.
@@ -58,4 +65,53 @@ pub enum Expr {
         field: Text,
         value: Boxed<Expr>,
     },
+}
+
+/// The trees of an expression.
+pub fn count_expr(expr: &Expr) -> u32
+    ensures { result ≡ capped (trees_of_expr expr.now) }
+{
+    match expr {
+        Expr::Name(_) | Expr::Unit | Expr::Truth(_) => 1,
+        Expr::Bits { .. } | Expr::Of { .. } => 4,
+        Expr::Make { payload, .. } => count_expr(payload.get()).saturating_add(3),
+        Expr::Rec { fields, .. } => {
+            let mut total: u32 = 3;
+            for field in fields.as_slice() {
+                total = total.saturating_add(count_expr(field));
+            }
+            total
+        }
+        Expr::Apply { op, args } => {
+            let mut total = 2 + count_numbers(*op);
+            for arg in args.as_slice() {
+                total = total.saturating_add(count_expr(arg));
+            }
+            total
+        }
+        Expr::Get { value, .. } => count_expr(value.get()).saturating_add(4),
+        _ => 3,
+    }
+}
+
+/// The trees of expressions side by side.
+pub fn count_exprs(exprs: &[Expr]) -> u32
+    ensures { result ≡ capped (trees_of_exprs exprs.now) }
+{
+    let mut total: u32 = 0;
+    for expr in exprs {
+        total = total.saturating_add(count_expr(expr));
+    }
+    total
+}
+
+/// The numbers that an operation is written with, beside its arguments.
+fn count_numbers(op: Op) -> u32
+    ensures { result ≡ length (numbers_of_op op) }
+{
+    match numbers_of_op(op) {
+        OpNumbers::Zero => 0,
+        OpNumbers::One(_) => 1,
+        OpNumbers::Two(_, _) => 2,
+    }
 }

@@ -5,20 +5,20 @@
 #![tactic(auto)]
 
 mod assertion;
-mod count;
 mod decl;
 mod expr;
+mod laws;
+mod limits;
 mod place;
 mod stm;
-mod written;
+mod type_name;
 
 pub use assertion::Assertion;
-pub use count::{count_expr, count_params, count_stm, count_type};
-pub use decl::{
-    Block, CellsKind, Decl, DeclForm, Param, Phase, RegisterKind, Spec, TypeName, When,
-};
-pub use expr::Expr;
+pub use decl::{Block, CellsKind, Decl, DeclForm, Phase, RegisterKind, Spec, When};
+pub use expr::{Expr, count_expr};
 pub use kat_value::Op;
+pub use laws::{one_form, one_reading, places_are_of_the_tree, specifications_can_be_written};
+pub use limits::{DECL_TREES_BOUND, DEEPEST_DECL, THE_VERSION};
 pub use place::Place;
-pub use stm::{CaseArm, MatchArm, Stm};
-pub use written::{one_form, one_reading, places_are_of_the_tree, specifications_can_be_written};
+pub use stm::{CaseArm, MatchArm, Stm, count_stm};
+pub use type_name::{Param, TypeName, count_params, count_type};

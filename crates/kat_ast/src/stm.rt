@@ -1,6 +1,10 @@
-// Statements.
+//! Statements, and how many trees each has.
 
-use crate::expr::Expr;
+ghost use Rattle.std.specs.Prelude.{◌≡◌};
+ghost use Rattle.kat_ast.specs.Parts.{capped};
+ghost use Rattle.kat_ast.specs.Statements.{trees_of_stm, trees_of_stms, trees_of_case_arms, trees_of_match_arms};
+
+use crate::expr::{Expr, count_expr, count_exprs};
 use kat_text::Text;
 use sqlite_items::{Boxed, Items};
 
@@ -86,4 +90,80 @@ pub struct MatchArm<B> {
     pub ctor: Text,
     pub payload: Text,
     pub body: B,
+}
+
+/// The trees of a statement.
+#[cycle(statements)]
+pub fn count_stm(stm: &Stm) -> u32
+    ensures { result ≡ capped (trees_of_stm stm.now) }
+{
+    match stm {
+        Stm::Ret(value) | Stm::Load(value) | Stm::Check(value) => {
+            count_expr(value).saturating_add(2)
+        }
+        Stm::Let { first, then, .. } => count_stm(first.get())
+            .saturating_add(count_stm(then.get()))
+            .saturating_add(3),
+        Stm::Seq(parts) => count_stms(parts.as_slice()).saturating_add(2),
+        Stm::If {
+            test,
+            then,
+            otherwise,
+        } => count_expr(test)
+            .saturating_add(count_stm(then.get()))
+            .saturating_add(count_stm(otherwise.get()))
+            .saturating_add(2),
+        Stm::Case { value, arms } => count_expr(value)
+            .saturating_add(count_case_arms(arms.as_slice()))
+            .saturating_add(2),
+        Stm::Match { value, arms } => count_expr(value)
+            .saturating_add(count_match_arms(arms.as_slice()))
+            .saturating_add(2),
+        Stm::Read(_) => 3,
+        Stm::Write { value, .. } => count_expr(value).saturating_add(3),
+        Stm::Store { index, value } => count_expr(index)
+            .saturating_add(count_expr(value))
+            .saturating_add(2),
+        Stm::Call { args, .. }
+        | Stm::Open { inputs: args, .. }
+        | Stm::Close { inputs: args, .. }
+        | Stm::Lemma { args, .. } => count_exprs(args.as_slice()).saturating_add(3),
+        Stm::Fail => 2,
+    }
+}
+
+/// The trees of statements side by side.
+#[cycle(statements)]
+fn count_stms(stms: &[Stm]) -> u32
+    ensures { result ≡ capped (trees_of_stms stms.now) }
+{
+    let mut total: u32 = 0;
+    for stm in stms {
+        total = total.saturating_add(count_stm(stm));
+    }
+    total
+}
+
+/// The trees of the arms of a `case`.
+#[cycle(statements)]
+fn count_case_arms(arms: &[CaseArm<Stm>]) -> u32
+    ensures { result ≡ capped (trees_of_case_arms arms.now) }
+{
+    let mut total: u32 = 0;
+    for arm in arms {
+        total = total.saturating_add(count_stm(&arm.body)).saturating_add(2);
+    }
+    total
+}
+
+/// The trees of the arms of a `match`.
+#[cycle(statements)]
+fn count_match_arms(arms: &[MatchArm<Stm>]) -> u32
+    ensures { result ≡ capped (trees_of_match_arms arms.now) }
+{
+    let mut total: u32 = 0;
+    for arm in arms {
+        total = total.saturating_add(count_stm(&arm.body)).saturating_add(3);
+    }
+    total
 }

@@ -1,5 +1,5 @@
-// What statements do. The interpreter runs the tree as it stands; where a failure stands is worked out only when
-// one comes, on the way back, so that a cycle that completes pays nothing for it.
+// What statements do. The interpreter runs the tree as it stands; where a failure stands is worked
+// out only when one comes, on the way back, so that a cycle that completes pays nothing for it.
 
 ghost use Rattle.std.specs.Prelude.{◌≡◌, ◌<◌, ◌^◌, IfOk};
 ghost use Rattle.kat_ast.specs.Statements.{trees_of_stm};
@@ -23,8 +23,8 @@ fn is_true(value: &Value) -> bool
     matches!(value, Value::Bool(true))
 }
 
-/// Runs a statement. After an answer other than `Done` what is running is given up. A statement of a form that no
-/// machine runs yet does nothing and gives unit, as in its meaning.
+/// Runs a statement. After an answer other than `Done` what is running is given up. A statement of
+/// a form that no machine runs yet does nothing and gives unit, as in its meaning.
 pub fn exec(
     stm: &Stm,
     alloc: Global,

@@ -1,6 +1,6 @@
-//! One cycle of a machine, as its meaning has it: a call of the step function from a state, with so many calls allowed.
-//! Expressions are evaluated and statements run on the tree as it stands; where a failure stands is worked out on the way
-//! back.
+//! One cycle of a machine, as its meaning has it: a call of the step function from a state, with so
+//! many calls allowed. Expressions are evaluated and statements run on the tree as it stands; where
+//! a failure stands is worked out on the way back.
 #![tactic(auto)]
 
 mod eval;

@@ -8,8 +8,8 @@ use kat_text::Text;
 use kat_value::{Value, copy_value};
 use std::alloc::{AllocError, Global};
 
-/// Names with their values, the newest first. A `let` puts one in front and borrows the others, so that nothing is
-/// copied and nothing has to be taken away.
+/// Names with their values, the newest first. A `let` puts one in front and borrows the others, so
+/// that nothing is copied and nothing has to be taken away.
 #[derive(Clone, Copy, Drop)]
 pub enum Locals<'a> {
     Empty,

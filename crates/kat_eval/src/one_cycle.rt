@@ -17,7 +17,8 @@ use std::alloc::Global;
 /// How a cycle ends.
 #[derive(Drop)]
 pub enum CycleEnd {
-    /// The new state, the calls that are left, and the indices of the memory that were stored, in order.
+    /// The new state, the calls that are left, and the indices of the memory that were stored, in
+    /// order.
     Done {
         state: State,
         left: u64,
@@ -33,7 +34,8 @@ pub enum CycleEnd {
     Memory,
 }
 
-/// One cycle: a call of the step function with so many calls allowed. A call takes one from those that are left.
+/// One cycle: a call of the step function with so many calls allowed. A call takes one from those
+/// that are left.
 pub fn cycle(alloc: Global, machine: &Checked, calls: u64, state: State) -> CycleEnd
     ensures { EndsAs result (cycle_of machine.now calls state) }
 {
@@ -53,7 +55,8 @@ pub fn cycle(alloc: Global, machine: &Checked, calls: u64, state: State) -> Cycl
     }
 }
 
-// The end of a cycle, from that of the step function's body, which is a tree of that function's declaration.
+// The end of a cycle, from that of the step function's body, which is a tree of that function's
+// declaration.
 fn end_of_cycle(end: StmEnd, decl: u32, body_at: u32, running: Running) -> CycleEnd
     requires { IsBelow (2 ^ 32) body_at end }
     ensures { EndsAs result (as_cycle (elsewhere decl (inside body_at (outcome_of end (progress_of running))))) }

@@ -21,7 +21,8 @@ use Rattle.kat_syntax.specs.Start.{start_of}
 abbrev pub Line : Type 0
 Line = List ℕ
 
--- the lines of a text are what stands between its newlines: behind a last newline that is an empty line
+-- the lines of a text are what stands between its newlines: behind a last newline that is an empty
+-- line
 abbrev pub lines_of : List ℕ → List Line
 lines_of bytes = slice_split (λ byte. byte == 10) bytes
 
@@ -76,13 +77,15 @@ MayFollow spec lines line = (line ≡ []) ⊎ ((at : ℕ) × (value : Value) × 
 abbrev pub AreSettings : Spec → List Line → Type 0
 AreSettings spec lines = (k : ℕ) (d : Line) → k < length lines → MayFollow spec (take k lines) (slice_index_or lines k d)
 
--- a line sets the register at this position to what is its value now, or none does and its value is the first one
+-- a line sets the register at this position to what is its value now, or none does and its value is
+-- the first one
 abbrev pub HasItsValue : Spec → List Line → List Value → ℕ → Type 0
 HasItsValue spec lines values at =
     ((value : Value) × IsSet spec lines at value × (slice_get values at ≡ Some value))
     ⊎ (IsUnset spec lines at × (slice_get values at ≡ slice_get (start_of spec).registers at))
 
--- the bytes are an image of the state: their lines set registers, and the others are as in the first state
+-- the bytes are an image of the state: their lines set registers, and the others are as in the
+-- first state
 pub record IsImageOf (spec : Spec) (bytes : List ℕ) (state : MachineState) : Type 0 where
   pub settings : AreSettings spec (lines_of bytes)
   pub values : (at : ℕ) → HasItsValue spec (lines_of bytes) state.registers at

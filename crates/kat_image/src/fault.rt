@@ -8,7 +8,8 @@ use std::alloc::AllocError;
 /// Why an image was not taken.
 #[derive(Debug, Drop)]
 pub enum ImageError {
-    /// The line of this number, counted from 1 with the empty ones, is the first that is not of the format.
+    /// The line of this number, counted from 1 with the empty ones, is the first that is not of the
+    /// format.
     Line(u64),
     /// No memory is left.
     Memory,

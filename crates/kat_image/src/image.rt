@@ -47,7 +47,8 @@ impl Image {
         }
     }
 
-    // Sets a register, which no line before has set, to a number that fits; else leaves the image as it was.
+    // Sets a register, which no line before has set, to a number that fits; else leaves the image
+    // as it was.
     fn set(&mut self, at: u32, number: u64) -> bool
         ensures set { IsTrue result → IsSetTo self.old at number self.new }
         ensures unset { IsFalse result → (width : ℕ) → IsFree self.old at width → IsNumber width number → ⊥ }
@@ -78,8 +79,9 @@ impl Image {
     }
 }
 
-/// The state that an image stands for. What it does not name is as in `State::start`. `Line` comes exactly where the
-/// bytes are no image of the machine, and names the first line that is not of the format.
+/// The state that an image stands for. What it does not name is as in `State::start`. `Line` comes
+/// exactly where the bytes are no image of the machine, and names the first line that is not of the
+/// format.
 pub fn read_image(alloc: Global, bytes: &[u8], machine: &Checked) -> Result<State, ImageError>
     // What is read is what the bytes are an image of.
     ensures found { IfOk result (IsImageOf machine.now bytes.now) }

@@ -26,8 +26,8 @@ pub fn lines_are_the_text()
     ensures whole { (bytes : List ℕ) → All (Lacks 10) (lines_of bytes) }
 {}
 
-/// The state of an image is one of the machine: it has one value for each register, of its declared type. This is said of
-/// the specifications of the first form without faults of typing.
+/// The state of an image is one of the machine: it has one value for each register, of its declared
+/// type. This is said of the specifications of the first form without faults of typing.
 pub fn images_are_states()
     ensures { ImagesAreStates }
 {

@@ -1,5 +1,6 @@
-//! The image of a machine: the text that gives registers the values that they have at the start. `specs/` says which
-//! bytes are an image of which state, apart from the reader, which goes over the bytes once.
+//! The image of a machine: the text that gives registers the values that they have at the start.
+//! `specs/` says which bytes are an image of which state, apart from the reader, which goes over
+//! the bytes once.
 #![tactic(auto)]
 
 mod fault;

@@ -37,7 +37,8 @@ fn words(line: &[u8]) -> Option<(&str, &str)>
     rest.split_once(' ')
 }
 
-/// The register that a line names, and the number that it gives it. `None` where the line is not of that form.
+/// The register that a line names, and the number that it gives it. `None` where the line is not of
+/// that form.
 pub(crate) fn assigned(machine: &Checked, line: &[u8]) -> Option<(u32, u64)>
     ensures found { IfSome result (λ r. Assigns (register_names machine.now.decls) line.now r.0 r.1) }
     ensures only { (at number : ℕ) → Assigns (register_names machine.now.decls) line.now at number → result ≡ Some (at, number) }

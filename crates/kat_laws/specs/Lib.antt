@@ -1,3 +1,5 @@
+pub mod States
 pub mod TextLaw
 pub mod Soundness
 pub mod Safety
+pub mod Images

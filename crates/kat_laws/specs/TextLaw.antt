@@ -1,18 +1,12 @@
 -- What the text of a run tells: the states at its boundaries, and its end.
 use Rattle.std.specs.Prelude.{◌≡◌, ◌≢◌, ◌<◌, ◌^◌, ℕ, List, [], ◌++◌, All}
-use Rattle.std.specs.List.{AllZip}
 use Rattle.kat_names.specs.Names.{AllDiffer}
-use Rattle.kat_value.specs.declared.types.Ty.TheVariants.{Unit as unit, Bool as bool, Bits as bits}
-use Rattle.kat_value.specs.declared.value.Value.{Value}
-use Rattle.kat_value.specs.Typing.{HasType}
 use Rattle.kat_ast.specs.Spec.{Spec}
-use Rattle.kat_ast.specs.declared.type_name.TypeName.{TypeName}
-use Rattle.kat_ast.specs.declared.type_name.TypeName.TheVariants.{Unit as UnitName, Bool as BoolName, Bits as BitsName, Named}
-use Rattle.kat_syntax.specs.Tables.{Name, RegisterDecl, registers_of}
-use Rattle.kat_syntax.specs.Machine.{MachineState}
+use Rattle.kat_syntax.specs.Tables.{Name}
 use Rattle.kat_syntax.specs.Cycle.{register_names}
 use Rattle.kat_syntax.specs.Run.{Run, RunEnd, Ended, OutIn, FailedIn}
 use Rattle.kat_syntax.specs.StateText.{state_text_of}
+use Rattle.kat_laws.specs.States.{IsStateOf}
 
 -- the byte of a space
 abbrev pub space : ℕ
@@ -27,27 +21,12 @@ pub record HasRegisterNames (spec : Spec) : Type 0 where
   pub words : All IsWord (register_names spec.decls)
   pub distinct : AllDiffer (register_names spec.decls)
 
--- a value is of the type of a register; none is of a declared type
-abbrev pub IsOfType : TypeName → Value → Type 0
-IsOfType UnitName value = HasType [] unit value
-IsOfType BoolName value = HasType [] bool value
-IsOfType (BitsName width) value = HasType [] (bits width) value
-IsOfType (Named name) value = ⊥
-
--- one value for each register, of its type
-abbrev pub AreOfTypes : List RegisterDecl → List Value → Type 0
-AreOfTypes registers values = AllZip (λ (register : RegisterDecl) value. IsOfType register.type value) registers values
-
--- a state of this machine, which has no memory
-pub record IsStateOf (spec : Spec) (state : MachineState) : Type 0 where
-  pub registers : AreOfTypes (registers_of spec.decls) state.registers
-  pub cells : state.cells ≡ []
-
 -- the numbers of an end are below 2 ^ 64
 abbrev pub IsWithinWords : RunEnd → Type 0
 IsWithinWords Ended = Unit {0}
 IsWithinWords (OutIn cycle) = cycle < 2 ^ 64
-IsWithinWords (FailedIn cycle place) = (cycle < 2 ^ 64) × (place.decl < 2 ^ 64) × (place.tree < 2 ^ 64)
+IsWithinWords (FailedIn cycle place) =
+    (cycle < 2 ^ 64) × (place.decl < 2 ^ 64) × (place.tree < 2 ^ 64)
 
 -- a run whose states are of this machine
 pub record IsOfMachine (spec : Spec) (run : Run) : Type 0 where
@@ -57,12 +36,15 @@ pub record IsOfMachine (spec : Spec) (run : Run) : Type 0 where
 -- two runs of one machine that print the same text have the same boundary states and the same end
 abbrev pub TextTellsRun : Type 0
 TextTellsRun =
-    (spec : Spec) (first second : Run) → HasRegisterNames spec → IsOfMachine spec first → IsOfMachine spec second →
+    (spec : Spec) (first second : Run) →
+    HasRegisterNames spec → IsOfMachine spec first → IsOfMachine spec second →
     state_text_of spec first ≡ state_text_of spec second → first ≡ second
 
--- where the texts of two runs of one machine begin one text, the runs are the same and so is what follows: the text
--- of a run is no proper beginning of the text of another
+-- where the texts of two runs of one machine begin one text, the runs are the same and so is what
+-- follows: the text of a run is no proper beginning of the text of another
 abbrev pub BeginningTellsRun : Type 0
 BeginningTellsRun =
-    (spec : Spec) (first second : Run) (more other : List ℕ) → HasRegisterNames spec → IsOfMachine spec first → IsOfMachine spec second →
-    state_text_of spec first ++ more ≡ state_text_of spec second ++ other → (first ≡ second) × (more ≡ other)
+    (spec : Spec) (first second : Run) (more other : List ℕ) →
+    HasRegisterNames spec → IsOfMachine spec first → IsOfMachine spec second →
+    state_text_of spec first ++ more ≡ state_text_of spec second ++ other →
+    (first ≡ second) × (more ≡ other)

@@ -1,5 +1,6 @@
-//! What holds of every specification that can be run, and that no code needs: typing is sound, a typed machine meets no
-//! ill-typed value, and the text of a run tells the run. A function here does nothing: its contract is the law.
+//! What holds of every specification that can be run, and that no code needs: typing is sound, a
+//! typed machine meets no ill-typed value, and the text of a run tells the run. A function here
+//! does nothing: its contract is the law.
 #![tactic(auto)]
 
 mod safety;

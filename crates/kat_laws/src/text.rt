@@ -4,21 +4,23 @@ ghost use Rattle.kat_laws.specs.TextLaw.{TextTellsRun, BeginningTellsRun};
 
 use kat_value::equality_is_tested;
 
-/// The output of a run tells the state at every boundary, though it shows only what changed, and how the run ended:
-/// two runs of one machine that print the same text have the same boundary states and the same end.
+/// The output of a run tells the state at every boundary, though it shows only what changed, and
+/// how the run ended: two runs of one machine that print the same text have the same boundary
+/// states and the same end.
 ///
-/// This is said of machines without memory whose registers have distinct names, each without a space, and of states
-/// with one value of its declared type (unit, bool or bits) for each register; the numbers of a fault are below 2^64.
-/// The function does nothing: its contract is the law.
+/// This is said of machines without memory whose registers have distinct names, each without a
+/// space, and of states with one value of its declared type (unit, bool or bits) for each register;
+/// the numbers of a fault are below 2^64. The function does nothing: its contract is the law.
 pub fn text_tells_states()
     ensures { TextTellsRun }
 {
     equality_is_tested();
 }
 
-/// The output of a run tells where it ends: where one text begins with the texts of two runs of one machine, they
-/// are the same run. So an output that was cut off is the output of no run of that machine. The machines are those of
-/// [`text_tells_states`]. The function does nothing: its contract is the law.
+/// The output of a run tells where it ends: where one text begins with the texts of two runs of one
+/// machine, they are the same run. So an output that was cut off is the output of no run of that
+/// machine. The machines are those of [`text_tells_states`]. The function does nothing: its
+/// contract is the law.
 pub fn text_tells_its_end()
     ensures { BeginningTellsRun }
 {

@@ -1,5 +1,5 @@
 -- Where a name stands in a list of names that differ, and what one more name does to the list.
-use Rattle.std.proofs.Common.{◌≡◌, ◌≢◌, ℕ, ◌+◌, ◌^◌, ◌<◌, ◌↔◌, Bool, false, cond, not, if◌then◌else◌, List, [], ◌∷◌, ◌++◌, map, length, get_or, slice_get, position, Option, None, Some, IsSome, Contains, Global, String, refl, sym, ap, subst, ◌∙◌, arith, true≢false, length-append}
+use Rattle.std.proofs.Common.{◌≡◌, ◌≢◌, ℕ, ◌+◌, ◌<◌, ◌↔◌, Bool, false, cond, not, if◌then◌else◌, List, [], ◌∷◌, ◌++◌, map, length, get_or, slice_get, position, Option, None, Some, IsSome, Contains, Global, String, refl, sym, ap, subst, ◌∙◌, arith, true≢false, length-append}
 use Rattle.std.proofs.lemmas.Bool.Decides.{nat_tests}
 use Rattle.std.proofs.lemmas.List.{length-map, map-append}
 use Rattle.std.proofs.lemmas.List.Folds.{list_any_none}
@@ -11,41 +11,51 @@ use Rattle.std.specs.List.{position_or_len, list_any}
 use Rattle.std.specs.Str.{bytes_eq}
 use Rattle.std.specs.String.{string_bytes, string_eq}
 use Rattle.indexmap.specs.IndexSet.{insert_key}
-use Rattle.kat_names.specs.Names.{position_of, AllDiffer, IsTable}
+use Rattle.kat_names.specs.Names.{most_names, position_of, AllDiffer, IsTable}
 
-position_or_len-map : {A B : Type 0} (f : A → B) (p : B → Bool) (xs : List A) → position_or_len p (map f xs) ≡ position_or_len (λ x. p (f x)) xs
+position_or_len-map : {A B : Type 0} (f : A → B) (p : B → Bool) (xs : List A) →
+    position_or_len p (map f xs) ≡ position_or_len (λ x. p (f x)) xs
 position_or_len-map f p [] = refl
-position_or_len-map f p (x ∷ xs) = ap (λ n. cond (not (p (f x))) (1 + n) 0) (position_or_len-map f p xs)
+position_or_len-map f p (x ∷ xs) =
+    ap (λ n. cond (not (p (f x))) (1 + n) 0) (position_or_len-map f p xs)
 
 -- the first element that passes stands where its image does
-position-map : {A B : Type 0} (f : A → B) (p : B → Bool) (xs : List A) → position (λ x. p (f x)) xs ≡ position p (map f xs)
+position-map : {A B : Type 0} (f : A → B) (p : B → Bool) (xs : List A) →
+    position (λ x. p (f x)) xs ≡ position p (map f xs)
 position-map f p xs = rw (position_or_len-map f p xs, length-map xs f) refl
 
 -- where none is found, no element passes
-position-None : {X : Type 0} (p : X → Bool) (xs : List X) (k : ℕ) (d : X) → position p xs ≡ None → k < length xs → p (get_or xs k d) ≡ false
+position-None : {X : Type 0} (p : X → Bool) (xs : List X) (k : ℕ) (d : X) → position p xs ≡ None →
+    k < length xs → p (get_or xs k d) ≡ false
 position-None p xs k d none within = grind (arith, nat_tests, fails_before_first p xs k d)
 
 -- a name stands at its position
-stands_at_position : (names : List (List ℕ)) (name : List ℕ) (i : ℕ) → position_of names name ≡ Some i → slice_get names i ≡ Some name
+stands_at_position : (names : List (List ℕ)) (name : List ℕ) (i : ℕ) →
+    position_of names name ≡ Some i → slice_get names i ≡ Some name
 stands_at_position names name i at =
     let first = position-Some (bytes_eq name) names i [] at in
     let same : name ≡ get_or names i [] = (bytes_eq-Decides name (get_or names i [])).0 first.1 in
     slice_get-get_or names i [] first.0 ∙ ap (λ n. Some n) (sym same)
 
 -- a name that has no position stands nowhere
-stands_nowhere : (names : List (List ℕ)) (name : List ℕ) (i : ℕ) → position_of names name ≡ None → slice_get names i ≡ Some name → ⊥
+stands_nowhere : (names : List (List ℕ)) (name : List ℕ) (i : ℕ) → position_of names name ≡ None →
+    slice_get names i ≡ Some name → ⊥
 stands_nowhere names name i none at =
-    let differs = position-None (bytes_eq name) names i [] none (slice_get_within names i name at) in
+    let differs =
+    position-None (bytes_eq name) names i [] none (slice_get_within names i name at) in
     let same : get_or names i [] ≡ name = get_or_from_slice_get names i name [] at in
     true≢false (sym ((bytes_eq-Decides name (get_or names i [])).1 (sym same)) ∙ differs)
 
 -- a name stands at one position alone
-one_position : (names : List (List ℕ)) (name : List ℕ) (i j : ℕ) → AllDiffer names → slice_get names i ≡ Some name → slice_get names j ≡ Some name → i ≡ j
+one_position : (names : List (List ℕ)) (name : List ℕ) (i j : ℕ) → AllDiffer names →
+    slice_get names i ≡ Some name → slice_get names j ≡ Some name → i ≡ j
 one_position names name i j differ at_i at_j =
     let here : get_or names i [] ≡ name = get_or_from_slice_get names i name [] at_i in
     let there : get_or names j [] ≡ name = get_or_from_slice_get names j name [] at_j in
-    let not_below : i < j → ⊥ = λ below. differ i j [] below (slice_get_within names j name at_j) (here ∙ sym there) in
-    let not_above : j < i → ⊥ = λ above. differ j i [] above (slice_get_within names i name at_i) (there ∙ sym here) in
+    let not_below : i < j → ⊥ =
+    λ below. differ i j [] below (slice_get_within names j name at_j) (here ∙ sym there) in
+    let not_above : j < i → ⊥ =
+    λ above. differ j i [] above (slice_get_within names i name at_i) (there ∙ sym here) in
     grind (arith, not_below, not_above)
 
 -- what an answer says that is the position of a name
@@ -54,36 +64,54 @@ pub record IsPositionOf (names : List (List ℕ)) (name : List ℕ) (answer : Op
   pub found : (i : ℕ) → (answer ≡ Some i) ↔ (slice_get names i ≡ Some name)
   pub known : IsSome answer ↔ Contains names name
 
-found_from_place : (names : List (List ℕ)) (name : List ℕ) (answer : Option ℕ) → AllDiffer names → answer ≡ position_of names name
-    → (i : ℕ) → slice_get names i ≡ Some name → answer ≡ Some i
+found_from_place : (names : List (List ℕ)) (name : List ℕ) (answer : Option ℕ) → AllDiffer names →
+    answer ≡ position_of names name →
+    (i : ℕ) → slice_get names i ≡ Some name → answer ≡ Some i
 found_from_place names name None differ is i at = absurd (stands_nowhere names name i (sym is) at)
 found_from_place names name (Some first) differ is i at =
-    ap (λ n. Some n) (one_position names name first i differ (stands_at_position names name first (sym is)) at)
+    let stands = stands_at_position names name first (sym is) in
+    ap (λ n. Some n) (one_position names name first i differ stands at)
 
-known_from_position : (names : List (List ℕ)) (name : List ℕ) (answer : Option ℕ) → answer ≡ position_of names name → IsSome answer ↔ Contains names name
+known_from_position : (names : List (List ℕ)) (name : List ℕ) (answer : Option ℕ) →
+    answer ≡ position_of names name → IsSome answer ↔ Contains names name
 known_from_position names name None is = (
   λ some. absurd (true≢false (sym some)),
-  λ there. absurd (stands_nowhere names name there.0 (sym is) (slice_get-get_or names there.0 name there.1 ∙ ap (λ n. Some n) there.2)),
+  λ there.
+      let stands = slice_get-get_or names there.0 name there.1 ∙ ap (λ n. Some n) there.2 in
+      absurd (stands_nowhere names name there.0 (sym is) stands),
 )
 known_from_position names name (Some i) is =
     let at = stands_at_position names name i (sym is) in
-    (λ _. (i, slice_get_within names i name at, get_or_from_slice_get names i name name at), λ _. refl)
+    let there = get_or_from_slice_get names i name name at in
+    (λ _. (i, slice_get_within names i name at, there), λ _. refl)
 
 -- a look-up among the keys of a table answers the position of the name
-pub position_of-keys : (keys : List (String Global)) (names : List (List ℕ)) (name : List ℕ) (answer : Option ℕ)
-    → map string_bytes keys ≡ names → AllDiffer (map string_bytes keys) → answer ≡ position (λ key. bytes_eq name (string_bytes key)) keys → IsPositionOf names name answer
+pub position_of-keys : (keys : List (String Global)) (names : List (List ℕ)) (name : List ℕ)
+    (answer : Option ℕ) →
+    map string_bytes keys ≡ names → AllDiffer (map string_bytes keys) →
+    answer ≡ position (λ key. bytes_eq name (string_bytes key)) keys →
+    IsPositionOf names name answer
 position_of-keys keys names name answer view_is differ looked_up =
-    let is : answer ≡ position_of names name = looked_up ∙ position-map string_bytes (bytes_eq name) keys ∙ ap (λ l. position_of l name) view_is in
+    let is : answer ≡ position_of names name =
+    looked_up ∙ position-map string_bytes (bytes_eq name) keys
+    ∙ ap (λ l. position_of l name) view_is in
+    let distinct = subst AllDiffer view_is differ in
     record {
       position = is;
-      found = λ i. (λ e. stands_at_position names name i (sym is ∙ e), found_from_place names name answer (subst AllDiffer view_is differ) is i);
+      found = λ i. (
+        λ e. stands_at_position names name i (sym is ∙ e),
+        found_from_place names name answer distinct is i,
+      );
       known = known_from_position names name answer is;
     }
 
 -- a table with one more name, which did not stand in it, is a table
-IsTable-push : (names : List (List ℕ)) (name : List ℕ) → IsTable names → length names < 2 ^ 32 → position_of names name ≡ None → IsTable (names ++ name ∷ [])
+IsTable-push : (names : List (List ℕ)) (name : List ℕ) → IsTable names → length names < most_names →
+    position_of names name ≡ None → IsTable (names ++ name ∷ [])
 IsTable-push names name table room none = record {
-  distinct = all_pairs_push (λ x y. x ≢ y) names name table.distinct (λ k d within same. stands_nowhere names name k none (slice_get-get_or names k d within ∙ ap (λ n. Some n) same));
+  distinct = all_pairs_push (λ x y. x ≢ y) names name table.distinct
+      (λ k d within same. stands_nowhere names name k none
+      (slice_get-get_or names k d within ∙ ap (λ n. Some n) same));
   fits = omega (arith, length-append names (name ∷ []));
 }
 
@@ -93,13 +121,23 @@ pub record IsAppended (after names : List (List ℕ)) (name : List ℕ) : Type 0
   pub table : IsTable after
 
 -- what the insertion of a key does to a table in which its name did not stand
-pub insert_key-names : (keys after : List (String Global)) (key : String Global) (names : List (List ℕ)) (name : List ℕ)
-    → map string_bytes keys ≡ names → IsTable (map string_bytes keys) → length names < 2 ^ 32 → position_of names name ≡ None
-    → string_bytes key ≡ name → after ≡ insert_key string_eq keys key → IsAppended (map string_bytes after) names name
+pub insert_key-names : (keys after : List (String Global)) (key : String Global)
+    (names : List (List ℕ)) (name : List ℕ) →
+    map string_bytes keys ≡ names → IsTable (map string_bytes keys) → length names < most_names →
+    position_of names name ≡ None →
+    string_bytes key ≡ name → after ≡ insert_key string_eq keys key →
+    IsAppended (map string_bytes after) names name
 insert_key-names keys after key names name view_is table room none key_is inserted =
     let none_of_keys : position (string_eq key) keys ≡ None =
-    position-map string_bytes (bytes_eq (string_bytes key)) keys ∙ (λ i. position_of (view_is i) (key_is i)) ∙ none in
-    let lacks : list_any (string_eq key) keys ≡ false = list_any_none (string_eq key) keys (λ k d within. position-None (string_eq key) keys k d none_of_keys within) in
-    let at_end : after ≡ keys ++ key ∷ [] = inserted ∙ ap (λ b. if b then keys else keys ++ key ∷ []) lacks in
-    let appended : map string_bytes after ≡ names ++ name ∷ [] = ap (map string_bytes) at_end ∙ map-append string_bytes keys (key ∷ []) ∙ (λ i. view_is i ++ key_is i ∷ []) in
-    record { appended = appended; table = subst IsTable (sym appended) (IsTable-push names name (subst IsTable view_is table) room none) }
+    position-map string_bytes (bytes_eq (string_bytes key)) keys
+    ∙ (λ i. position_of (view_is i) (key_is i)) ∙ none in
+    let lacks : list_any (string_eq key) keys ≡ false =
+    list_any_none (string_eq key) keys
+    (λ k d within. position-None (string_eq key) keys k d none_of_keys within) in
+    let at_end : after ≡ keys ++ key ∷ [] =
+    inserted ∙ ap (λ b. if b then keys else keys ++ key ∷ []) lacks in
+    let appended : map string_bytes after ≡ names ++ name ∷ [] =
+    ap (map string_bytes) at_end ∙ map-append string_bytes keys (key ∷ [])
+    ∙ (λ i. view_is i ++ key_is i ∷ []) in
+    let pushed = IsTable-push names name (subst IsTable view_is table) room none in
+    record { appended = appended; table = subst IsTable (sym appended) pushed }

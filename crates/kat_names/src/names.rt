@@ -1,7 +1,7 @@
 //! The table of names, and why it refuses one.
-ghost use Rattle.std.specs.Prelude.{◌≡◌, ◌^◌, ◌<◌, ◌≤◌, ◌↔◌, [], ◌∷◌, ◌++◌, ℕ, length, slice_get, Contains, IsSome, IsOk, IsTrue, IfOk, OnOk, OnErr};
+ghost use Rattle.std.specs.Prelude.{◌≡◌, ◌<◌, ◌≤◌, ◌↔◌, [], ◌∷◌, ◌++◌, ℕ, length, slice_get, Contains, IsSome, IsOk, IsTrue, IfOk, OnOk, OnErr};
 ghost use Rattle.std.specs.Result.{result_ok};
-ghost use Rattle.kat_names.specs.Names.{position_of, AllDiffer};
+ghost use Rattle.kat_names.specs.Names.{most_names, position_of, AllDiffer};
 ghost use Rattle.kat_names.specs.NameError.{twice_of};
 
 use indexmap::IndexSet;
@@ -9,21 +9,8 @@ use std::alloc::{AllocError, Global};
 use std::marker::Model;
 use thiserror::Error;
 
-/// Why a name was not added.
-#[derive(Debug, Drop, Error)]
-pub enum NameError {
-    /// The name stands already, at this position.
-    #[error("the name stands already at position {0}")]
-    Twice(u32),
-    /// No memory is left.
-    #[error("out of memory")]
-    Memory,
-}
-
-/// The name does not stand in the table.
-#[derive(Debug, Drop, Error)]
-#[error("unknown name")]
-pub struct Unknown;
+/// How many names a table has at most: each position is a `u32`.
+const MOST_NAMES: usize = 1 << 32;
 
 /// Distinct names in the order of adding, each with its position in that order, counted from 0.
 ///
@@ -45,9 +32,6 @@ impl Model for Table {
     ghost invariant = { λ t. IsTable (map string_bytes t.names.keys) };
 }
 
-// A position is a `u32`, so this many names have one.
-const MOST_NAMES: usize = 1 << 32;
-
 impl Table {
     /// A table with no names. No memory is taken before a name is added, so this is always `Ok`.
     pub fn new(alloc: Global) -> Result<Table, AllocError>
@@ -60,7 +44,7 @@ impl Table {
 
     /// Whether 2^32 names stand in the table, so that none can be added.
     pub fn is_full(&self) -> bool
-        ensures full { IsTrue result ↔ (2 ^ 32 ≤ length self.now) }
+        ensures full { IsTrue result ↔ (most_names ≤ length self.now) }
         ensures distinct { AllDiffer self.now }
     {
         self.names.len() == MOST_NAMES
@@ -68,16 +52,17 @@ impl Table {
 
     /// Adds a name behind the others, and gives its position.
     ///
-    /// `Twice` comes exactly where the name stands already, with its position, and `Memory` only for a new
-    /// name. After either the table is as it was.
+    /// `Twice` comes exactly where the name stands already, with its position, and `Memory` only
+    /// for a new name. After either the table is as it was.
     pub fn add(&mut self, name: &str) -> Result<u32, NameError>
-        requires { length self.old < 2 ^ 32 }
+        requires { length self.old < most_names }
 
         ensures last { IfOk result (λ position. position ≡ length self.old) }
         ensures added { OnOk result (self.new ≡ self.old ++ name.now ∷ []) }
 
         // The same fact twice: by the name at a position, and by the position of a name.
-        ensures twice { (i : ℕ) → (result ≡ Err (NameError.Twice i)) ↔ (slice_get self.old i ≡ Some name.now) }
+        ensures twice { (i : ℕ) →
+            (result ≡ Err (NameError.Twice i)) ↔ (slice_get self.old i ≡ Some name.now) }
         ensures position { twice_of result ≡ position_of self.old name.now }
 
         ensures err { OnErr result (self.new ≡ self.old) }
@@ -91,7 +76,8 @@ impl Table {
         Ok(position)
     }
 
-    /// The position of a name, or `Unknown` exactly where it does not stand in the table. Takes no memory.
+    /// The position of a name, or `Unknown` exactly where it does not stand in the table. Takes no
+    /// memory.
     pub fn find(&self, name: &str) -> Result<u32, Unknown>
         ensures found { (i : ℕ) → (result ≡ Ok i) ↔ (slice_get self.now i ≡ Some name.now) }
         ensures known { IsOk result ↔ Contains self.now name.now }
@@ -101,7 +87,7 @@ impl Table {
         self.position_of(name).ok_or(Unknown)
     }
 
-    // The position of a name that stands in the table.
+    /// The position of a name that stands in the table.
     fn position_of(&self, name: &str) -> Option<u32>
         ensures position { result ≡ position_of self.now name.now }
         ensures found { (i : ℕ) → (result ≡ Some i) ↔ (slice_get self.now i ≡ Some name.now) }
@@ -112,9 +98,9 @@ impl Table {
         Some(position as u32)
     }
 
-    // Adds a name that does not stand in the table.
+    /// Adds a name that does not stand in the table.
     fn append(&mut self, name: &str) -> Result<(), AllocError>
-        requires room { length self.old < 2 ^ 32 }
+        requires room { length self.old < most_names }
         requires absent { position_of self.old name.now ≡ None }
         ensures ok { OnOk result (self.new ≡ self.old ++ name.now ∷ []) }
         ensures err { OnErr result (self.new ≡ self.old) }
@@ -125,6 +111,22 @@ impl Table {
         Ok(())
     }
 }
+
+/// Why a name was not added.
+#[derive(Debug, Drop, Error)]
+pub enum NameError {
+    /// The name stands already, at this position.
+    #[error("the name stands already at position {0}")]
+    Twice(u32),
+    /// No memory is left.
+    #[error("out of memory")]
+    Memory,
+}
+
+/// The name does not stand in the table.
+#[derive(Debug, Drop, Error)]
+#[error("unknown name")]
+pub struct Unknown;
 
 #[cfg(test)]
 mod tests {

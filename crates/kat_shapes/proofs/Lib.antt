@@ -5,3 +5,4 @@ mod Reading
 mod Misfits
 mod Judgements
 mod Later
+mod Going

@@ -1,11 +1,11 @@
-// The state of a machine.
+//! The state of a machine.
 
 ghost use Rattle.std.specs.Prelude.{◌≡◌, IfOk, slice_get, slice_set};
 ghost use Rattle.std.specs.Option.{option_copied};
 ghost use Rattle.kat_syntax.specs.Start.{first_value_of, start_of};
 
 use kat_syntax::{Checked, DeclForm, TypeName};
-use kat_value::{Value, Values};
+use kat_value::{Value, Values, is_width};
 use sqlite_items::Items;
 use std::alloc::{AllocError, Global};
 use std::marker::Model;
@@ -67,12 +67,12 @@ impl State {
     }
 }
 
-// The first value of a type.
+/// The first value of a type.
 fn first_value(ty: &TypeName) -> Value
     ensures { result ≡ first_value_of ty.now }
 {
     match ty {
-        TypeName::Bits(width) if *width <= 64 => Value::Bits {
+        TypeName::Bits(width) if is_width(*width) => Value::Bits {
             width: *width as u32,
             number: 0,
         },

@@ -1,7 +1,9 @@
 -- The function at a number, among declarations that can be run.
-use Rattle.std.proofs.Common.{◌≡◌, ℕ, zero, suc, ◌+◌, ◌<◌, ◌^◌, ◌&&◌, ◌∷◌, refl, sym, ◌∙◌, ap, subst, arith, length, get_or, Bool, List, [], Some, IsSome, true, false}
+use Rattle.std.proofs.Common.{◌≡◌, ℕ, zero, suc, ◌+◌, ◌<◌, ◌^◌, ◌&&◌, ◌∷◌, refl, sym, ◌∙◌, ap, subst, arith, length, get_or, List, [], Some, IsSome, true, false}
 use Rattle.std.specs.Prelude.{option_and_then, slice_get}
+use Rattle.std.proofs.lemmas.Bool.{and_parts}
 use Rattle.std.proofs.lemmas.Option.{slice_get_read}
+use Rattle.kat_tree.specs.Preorder.{count_of}
 use Rattle.kat_ast.specs.declared.stm.Stm.{Stm}
 use Rattle.kat_ast.specs.declared.type_name.TypeName.{TypeName}
 use Rattle.kat_ast.specs.declared.type_name.TypeName.TheVariants as type
@@ -13,24 +15,15 @@ use Rattle.kat_syntax.specs.FirstForm.{is_first_stm, is_first_decl, are_first_de
 use Rattle.kat_ast.specs.Parts.{capped}
 use Rattle.kat_ast.specs.Types.{trees_of_type, trees_of_params}
 use Rattle.kat_ast.specs.Statements.{trees_of_stm}
-use Rattle.kat_ast.specs.Declarations.{trees_of_decl, IsDecl}
+use Rattle.kat_ast.specs.Declarations.{trees_of_decl, IsDecl, tree_of_decl}
 use Rattle.kat_syntax.specs.Checked.{declared_at}
-use Rattle.kat_ast.proofs.DeclCount.{decl_counted}
-
-both_left : (a b : Bool) → (a && b) ≡ true → a ≡ true
-both_left true b h = refl
-both_left false b h = h
-
-both_right : (a b : Bool) → (a && b) ≡ true → b ≡ true
-both_right true b h = h
-both_right false b h = absurd (let e : false ≡ true = h in cc)
 
 -- each declaration is of these forms
 first_at : (decls : List DeclForm) (k : ℕ) (decl : DeclForm) → are_first_decls decls ≡ true → k < length decls → decl ≡ get_or decls k decl → is_first_decl decl ≡ true
 first_at [] k decl all within is = absurd (omega arith)
-first_at (d ∷ decls) zero decl all within is = ap is_first_decl is ∙ both_left (is_first_decl d) (are_first_decls decls) all
+first_at (d ∷ decls) zero decl all within is = ap is_first_decl is ∙ (and_parts (is_first_decl d) (are_first_decls decls) all).0
 first_at (d ∷ decls) (suc k) decl all within is =
-    first_at decls k decl (both_right (is_first_decl d) (are_first_decls decls) all) (omega arith) is
+    first_at decls k decl (and_parts (is_first_decl d) (are_first_decls decls) all).1 (omega arith) is
 
 body_first : (x : Name) (params : List Param) (result : TypeName) (body : Stm) → is_first_decl (Fun x params result body) ≡ true → is_first_stm body ≡ true
 body_first x [] type.Unit body h = h
@@ -72,11 +65,11 @@ pub record IsPlace (params : List Param) (result : TypeName) (body : Stm) (n m :
   pub place : 3 + n + m ≡ 3 + trees_of_params params + trees_of_type result
   pub small : 3 + n + m + trees_of_stm body < 2 ^ 32
 
-pub body_place : (decl seen : DeclForm) (x : Name) (params listed : List Param) (result : TypeName) (body : Stm) (n m : ℕ) →
+pub body_place : ((d : DeclForm) → trees_of_decl d ≡ count_of (tree_of_decl d)) → (decl seen : DeclForm) (x : Name) (params listed : List Param) (result : TypeName) (body : Stm) (n m : ℕ) →
     IsDecl decl → seen ≡ decl → seen ≡ Fun x params result body → listed ≡ params → n ≡ capped (trees_of_params listed) → m ≡ trees_of_type result → IsPlace params result body n m
-body_place decl seen x params listed result body n m kept seen_is seen_fun listed_is n_is m_is =
+body_place counted decl seen x params listed result body n m kept seen_is seen_fun listed_is n_is m_is =
     let few : trees_of_decl (Fun x params result body) < 2 ^ 32 =
-    subst (λ d. trees_of_decl d < 2 ^ 32) (sym seen_is ∙ seen_fun) (rw (decl_counted decl) kept.small) in
+    subst (λ d. trees_of_decl d < 2 ^ 32) (sym seen_is ∙ seen_fun) (rw (counted decl) kept.small) in
     let count : n ≡ capped (trees_of_params params) = n_is ∙ ap (λ ps. capped (trees_of_params ps)) listed_is in
     record { place = omega (arith, few, count, m_is); small = omega (arith, few, count, m_is) }
 

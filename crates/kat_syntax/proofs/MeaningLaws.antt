@@ -14,44 +14,40 @@ use Rattle.kat_syntax.specs.Tables.{Name}
 use Rattle.kat_ast.specs.Expressions.{trees_of_expr}
 use Rattle.kat_ast.specs.Statements.{trees_of_case_arm, trees_of_match_arm, stm_trees, trees_of_stm}
 use Rattle.kat_syntax.specs.Machine.{Progress}
-use Rattle.kat_syntax.specs.Meaning.{Locals, Outcome, then_do, inside, is_true, value_of_expr, Calls, Part, part_of, meaning}
-use Rattle.kat_syntax.specs.MeaningByParts.{LetByParts, IfByParts}
-
--- a statement as the part that it is
-abbrev pub whole : List Name → Calls → Stm → Part
-whole names calls = fold-Stm Part (part_of names calls)
+use Rattle.kat_syntax.specs.Meaning.{Locals, Outcome, then_do, inside, is_true, value_of_expr, Calls, Part, part_of, part_of_stm, meaning}
+use Rattle.kat_syntax.specs.MeaningByParts.{LetByParts, IfByParts, PartsAreCounted}
 
 module _ (names : List Name) (calls : Calls) where
   abbrev HasCount : Stm → Type 0
-  HasCount s = (whole names calls s).trees ≡ trees_of_stm s
+  HasCount s = (part_of_stm names calls s).trees ≡ trees_of_stm s
 
   parts_have_counts : (parts : List ((s : Stm) × HasCount s)) →
-      map (λ (p : Part). p.trees) (map (whole names calls) (map (λ e. e.0) parts)) ≡ map trees_of_stm (map (λ e. e.0) parts)
+      map (λ (p : Part). p.trees) (map (part_of_stm names calls) (map (λ e. e.0) parts)) ≡ map trees_of_stm (map (λ e. e.0) parts)
   parts_have_counts [] = refl
   parts_have_counts (p ∷ ps) =
-      ap (λ n. n ∷ map (λ (p : Part). p.trees) (map (whole names calls) (map (λ e. e.0) ps))) p.1
+      ap (λ n. n ∷ map (λ (p : Part). p.trees) (map (part_of_stm names calls) (map (λ e. e.0) ps))) p.1
       ∙ ap (λ ns. trees_of_stm p.0 ∷ ns) (parts_have_counts ps)
 
   case_arms_have_counts : (arms : List (CaseArm ((s : Stm) × HasCount s))) →
-      map (case_arm.map Part ℕ (λ p. p.trees)) (map (case_arm.map Stm Part (whole names calls)) (map (case_arm.map ((s : Stm) × HasCount s) Stm (λ e. e.0)) arms))
+      map (case_arm.map Part ℕ (λ p. p.trees)) (map (case_arm.map Stm Part (part_of_stm names calls)) (map (case_arm.map ((s : Stm) × HasCount s) Stm (λ e. e.0)) arms))
       ≡ map (case_arm.map Stm ℕ trees_of_stm) (map (case_arm.map ((s : Stm) × HasCount s) Stm (λ e. e.0)) arms)
   case_arms_have_counts [] = refl
   case_arms_have_counts (arm ∷ arms) =
       ap (λ n. record { member = arm.member; body = n }
-      ∷ map (case_arm.map Part ℕ (λ p. p.trees)) (map (case_arm.map Stm Part (whole names calls)) (map (case_arm.map ((s : Stm) × HasCount s) Stm (λ e. e.0)) arms))) arm.body.1
+      ∷ map (case_arm.map Part ℕ (λ p. p.trees)) (map (case_arm.map Stm Part (part_of_stm names calls)) (map (case_arm.map ((s : Stm) × HasCount s) Stm (λ e. e.0)) arms))) arm.body.1
       ∙ ap (λ ns. record { member = arm.member; body = trees_of_stm arm.body.0 } ∷ ns) (case_arms_have_counts arms)
 
   match_arms_have_counts : (arms : List (MatchArm ((s : Stm) × HasCount s))) →
-      map (match_arm.map Part ℕ (λ p. p.trees)) (map (match_arm.map Stm Part (whole names calls)) (map (match_arm.map ((s : Stm) × HasCount s) Stm (λ e. e.0)) arms))
+      map (match_arm.map Part ℕ (λ p. p.trees)) (map (match_arm.map Stm Part (part_of_stm names calls)) (map (match_arm.map ((s : Stm) × HasCount s) Stm (λ e. e.0)) arms))
       ≡ map (match_arm.map Stm ℕ trees_of_stm) (map (match_arm.map ((s : Stm) × HasCount s) Stm (λ e. e.0)) arms)
   match_arms_have_counts [] = refl
   match_arms_have_counts (arm ∷ arms) =
       ap (λ n. record { ctor = arm.ctor; payload = arm.payload; body = n }
-      ∷ map (match_arm.map Part ℕ (λ p. p.trees)) (map (match_arm.map Stm Part (whole names calls)) (map (match_arm.map ((s : Stm) × HasCount s) Stm (λ e. e.0)) arms))) arm.body.1
+      ∷ map (match_arm.map Part ℕ (λ p. p.trees)) (map (match_arm.map Stm Part (part_of_stm names calls)) (map (match_arm.map ((s : Stm) × HasCount s) Stm (λ e. e.0)) arms))) arm.body.1
       ∙ ap (λ ns. record { ctor = arm.ctor; payload = arm.payload; body = trees_of_stm arm.body.0 } ∷ ns) (match_arms_have_counts arms)
 
   layer_has_count : (y : Stm-F ((s : Stm) × HasCount s)) →
-      (part_of names calls (map-Stm Stm Part (whole names calls) (map-Stm ((s : Stm) × HasCount s) Stm (λ e. e.0) y))).trees
+      (part_of names calls (map-Stm Stm Part (part_of_stm names calls) (map-Stm ((s : Stm) × HasCount s) Stm (λ e. e.0) y))).trees
       ≡ stm_trees (map-Stm Stm ℕ trees_of_stm (map-Stm ((s : Stm) × HasCount s) Stm (λ e. e.0) y))
   layer_has_count (Ret e) = refl
   layer_has_count (Let x a b) = omega (arith, a.1, b.1)
@@ -61,38 +57,42 @@ module _ (names : List Name) (calls : Calls) where
   layer_has_count (Match e arms) = ap (λ ns. 2 + trees_of_expr e + sum_by trees_of_match_arm ns) (match_arms_have_counts arms)
   layer_has_count _ = refl
 
-  -- a part's count is that of its trees
-  pub trees_of_part : (s : Stm) → (whole names calls s).trees ≡ trees_of_stm s
+  -- the count of a part, by its layers
+  trees_of_part : (s : Stm) → (part_of_stm names calls s).trees ≡ trees_of_stm s
   trees_of_part = ind-Stm HasCount (λ x y is.
       ap (λ (p : Part). p.trees) (fold-roll-Stm Part (part_of names calls) x)
-      ∙ subst (λ z. (part_of names calls (map-Stm Stm Part (whole names calls) z)).trees ≡ stm_trees (map-Stm Stm ℕ trees_of_stm z)) is (layer_has_count y)
+      ∙ subst (λ z. (part_of names calls (map-Stm Stm Part (part_of_stm names calls) z)).trees ≡ stm_trees (map-Stm Stm ℕ trees_of_stm z)) is (layer_has_count y)
       ∙ sym (fold-roll-Stm ℕ stm_trees x))
 
   -- a statement does what its layer does with the parts
-  pub meaning_out : (s : Stm) → meaning names calls s ≡ (part_of names calls (map-Stm Stm Part (whole names calls) (out-Stm s))).does
+  meaning_out : (s : Stm) → meaning names calls s ≡ (part_of names calls (map-Stm Stm Part (part_of_stm names calls) (out-Stm s))).does
   meaning_out s = ap (λ (p : Part). p.does) (fold_out-Stm Part (part_of names calls) s)
 
-  pub meaning_let : (s : Stm) (x : Name) (first second : Stm) → out-Stm s ≡ Let x first second → (locals : Locals) (progress : Progress) →
+  meaning_let : (s : Stm) (x : Name) (first second : Stm) → out-Stm s ≡ Let x first second → (locals : Locals) (progress : Progress) →
       meaning names calls s locals progress
       ≡ then_do (inside 3 (meaning names calls first locals progress))
       (λ value next. inside (3 + trees_of_stm first) (meaning names calls second ((x, value) ∷ locals) next))
   meaning_let s x first second is locals progress =
       ap (λ (d : Locals → Progress → Outcome). d locals progress) (meaning_out s)
-      ∙ ap (λ (z : Stm-F Stm). (part_of names calls (map-Stm Stm Part (whole names calls) z)).does locals progress) is
+      ∙ ap (λ (z : Stm-F Stm). (part_of names calls (map-Stm Stm Part (part_of_stm names calls) z)).does locals progress) is
       ∙ ap (λ (n : ℕ). then_do (inside 3 (meaning names calls first locals progress))
       (λ value next. inside (3 + n) (meaning names calls second ((x, value) ∷ locals) next))) (trees_of_part first)
 
-  pub meaning_if : (s : Stm) (test : Expr) (first second : Stm) → out-Stm s ≡ If test first second → (locals : Locals) (progress : Progress) →
+  meaning_if : (s : Stm) (test : Expr) (first second : Stm) → out-Stm s ≡ If test first second → (locals : Locals) (progress : Progress) →
       meaning names calls s locals progress
       ≡ (if is_true (value_of_expr test locals)
       then inside (2 + trees_of_expr test) (meaning names calls first locals progress)
       else inside (2 + trees_of_expr test + trees_of_stm first) (meaning names calls second locals progress))
   meaning_if s test first second is locals progress =
       ap (λ (d : Locals → Progress → Outcome). d locals progress) (meaning_out s)
-      ∙ ap (λ (z : Stm-F Stm). (part_of names calls (map-Stm Stm Part (whole names calls) z)).does locals progress) is
+      ∙ ap (λ (z : Stm-F Stm). (part_of names calls (map-Stm Stm Part (part_of_stm names calls) z)).does locals progress) is
       ∙ ap (λ (n : ℕ). if is_true (value_of_expr test locals)
       then inside (2 + trees_of_expr test) (meaning names calls first locals progress)
       else inside (2 + trees_of_expr test + n) (meaning names calls second locals progress)) (trees_of_part first)
+
+-- a part's count is that of its trees
+pub parts_are_counted : PartsAreCounted
+parts_are_counted = trees_of_part
 
 -- the same of the forms themselves
 pub let_by_parts : LetByParts

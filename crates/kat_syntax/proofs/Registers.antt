@@ -8,6 +8,7 @@ use Rattle.kat_ast.specs.declared.type_name.TypeName.{TypeName}
 use Rattle.kat_ast.specs.declared.decl.RegisterKind.{RegisterKind}
 use Rattle.kat_ast.specs.declared.decl.DeclForm.{DeclForm}
 use Rattle.kat_ast.specs.declared.decl.DeclForm.TheVariants.{Register}
+use Rattle.kat_syntax.specs.Limits.{most_declarations}
 use Rattle.kat_syntax.specs.Tables.{Name}
 use Rattle.kat_syntax.specs.Cycle.{register_names}
 
@@ -40,6 +41,6 @@ few_names (Register x type kind ∷ decls) = omega (arith, few_names decls)
 few_names (_ ∷ decls) = omega (arith, few_names decls)
 
 -- few declarations have few registers
-pub few_so_far : (decls : List DeclForm) (some rest : List Name) → length decls ≤ 4096 → some ++ rest ≡ register_names decls → length some < 2 ^ 32
+pub few_so_far : (decls : List DeclForm) (some rest : List Name) → length decls ≤ most_declarations → some ++ rest ≡ register_names decls → length some < 2 ^ 32
 few_so_far decls some rest few all =
     omega (arith, few_names decls, length-append some rest, ap length all)

@@ -5,28 +5,30 @@ use Rattle.std.proofs.Common.{ap, sym, subst, ◌∙◌, arith, append_assoc, ge
 use Rattle.std.proofs.lemmas.List.{append-nil}
 use Rattle.std.proofs.lemmas.List.Folds.{list_any-append, list_any_at}
 use Rattle.std.proofs.lemmas.List.Quantifiers.{all_pairs_push}
+use Rattle.std.proofs.lemmas.Bool.{and_parts, false≢true}
 use Rattle.std.proofs.lemmas.Bool.Decides.{nat_tests}
 use Rattle.std.proofs.lemmas.Slice.Eq.{bytes_eq-Decides}
 use Rattle.kat_names.specs.Names.{AllDiffer}
 use Rattle.kat_ast.specs.declared.decl.DeclForm.{DeclForm}
 use Rattle.kat_ast.specs.declared.decl.DeclForm.TheVariants.{Register, Fun, Step}
 use Rattle.kat_ast.specs.Spec.{Spec}
-use Rattle.kat_syntax.specs.Tables.{Name, function_at, function_from, step_of}
+use Rattle.kat_syntax.specs.Limits.{most_declarations}
+use Rattle.kat_syntax.specs.Tables.{Name, function_at, function_from, step_of, step_name_of, step_function_of}
 use Rattle.kat_syntax.specs.Cycle.{register_names}
 use Rattle.kat_syntax.specs.FirstForm.{is_first_decl, are_first_decls}
 use Rattle.kat_syntax.specs.Typing.{is_among, in_decl, unless, names_from, taken_faults, decl_faults, inner_faults, step_faults, count_faults}
-use Rattle.kat_syntax.specs.Runnable.{IsTyped, IsFirstForm, HasDistinctRegisters, HasStepFunction}
+use Rattle.kat_syntax.specs.Runnable.{IsTyped, IsRunnable, HasCleanDecls, HasDistinctRegisters, HasStepFunction}
 
-pub empty_first : {A : Type 0} (xs ys : List A) → xs ++ ys ≡ [] → xs ≡ []
+empty_first : {A : Type 0} (xs ys : List A) → xs ++ ys ≡ [] → xs ≡ []
 empty_first [] ys e = refl
 empty_first (x ∷ xs) ys e = absurd (let f : x ∷ (xs ++ ys) ≡ [] = e in cc)
 
-pub empty_second : {A : Type 0} (xs ys : List A) → xs ++ ys ≡ [] → ys ≡ []
+empty_second : {A : Type 0} (xs ys : List A) → xs ++ ys ≡ [] → ys ≡ []
 empty_second [] ys e = e
 empty_second (x ∷ xs) ys e = absurd (let f : x ∷ (xs ++ ys) ≡ [] = e in cc)
 
 -- where a condition has no fault it holds
-pub held : (k tree code : ℕ) (holds : Bool) → in_decl k (unless holds tree code) ≡ [] → holds ≡ true
+held : (k tree code : ℕ) (holds : Bool) → in_decl k (unless holds tree code) ≡ [] → holds ≡ true
 held k tree code true e = refl
 held k tree code false e = absurd (cc)
 
@@ -94,7 +96,7 @@ module _ (spec : Spec) (typed : IsTyped spec) where
   no_taken_faults : taken_faults [] (names_from 0 spec.decls) ≡ []
   no_taken_faults = empty_first _ _ behind_steps
 
-  pub no_inner_faults : inner_faults spec.decls 0 spec.decls ≡ []
+  no_inner_faults : inner_faults spec.decls 0 spec.decls ≡ []
   no_inner_faults = empty_second (taken_faults [] (names_from 0 spec.decls)) _ behind_steps
 
   -- the registers of a typed specification have distinct names
@@ -104,9 +106,11 @@ module _ (spec : Spec) (typed : IsTyped spec) where
 le_of : (m n : ℕ) → nat_le m n ≡ true → m ≤ n
 le_of m n e = grind (arith, nat_tests)
 
--- a typed specification has at most 4,096 declarations
-pub few_declarations : (spec : Spec) → IsTyped spec → length spec.decls ≤ 4096
-few_declarations spec typed = le_of (length spec.decls) 4096 (held 4096 0 23 (nat_le (length spec.decls) 4096) (empty_first _ _ typed))
+-- a typed specification has no more declarations than it may
+pub few_declarations : (spec : Spec) → IsTyped spec → length spec.decls ≤ most_declarations
+few_declarations spec typed =
+    le_of (length spec.decls) most_declarations
+    (held most_declarations 0 23 (nat_le (length spec.decls) most_declarations) (empty_first _ _ typed))
 
 step_from : (k : ℕ) (decls : List DeclForm) → step_faults false k decls ≡ [] → IsSome (step_of decls)
 step_from k [] e = absurd (cc)
@@ -127,41 +131,36 @@ found_step decls (Some f) there named = named
 pub step_is_declared : (spec : Spec) → IsTyped spec → IsSome (step_of spec.decls)
 step_is_declared spec typed = step_from 0 spec.decls (no_step_faults spec typed)
 
-pub step_function_is_declared : (spec : Spec) → IsTyped spec → IsSome (function_from 0 spec.decls (unwrap_or (step_of spec.decls) []))
+pub step_function_is_declared : (spec : Spec) → IsTyped spec → IsSome (step_function_of spec.decls)
 step_function_is_declared spec typed =
     found_step spec.decls (step_of spec.decls) (step_is_declared spec typed) (named_from spec.decls 0 spec.decls (no_inner_faults spec typed))
-
-and_first : (p q : Bool) → (p && q) ≡ true → p ≡ true
-and_first true q e = refl
-and_first false q e = e
-
-and_second : (p q : Bool) → (p && q) ≡ true → q ≡ true
-and_second true q e = e
-and_second false q e = absurd (let f : false ≡ true = e in cc)
 
 first_takes_nothing : (k : ℕ) (decls : List DeclForm) (f : Name) → are_first_decls decls ≡ true → IfSome (function_from k decls f) (λ function. function.params ≡ [])
 first_takes_nothing k [] f e = tt
 first_takes_nothing k (Fun x [] result body ∷ decls) f e =
     elim (bytes_eq x f) as (λ b. IfSome (if b then function_at k (Fun x [] result body) else function_from (k + 1) decls f) (λ function. function.params ≡ [])) [
       | true ↦ refl
-      | false ↦ first_takes_nothing (k + 1) decls f (and_second (is_first_decl (Fun x [] result body)) (are_first_decls decls) e)
+      | false ↦ first_takes_nothing (k + 1) decls f (and_parts (is_first_decl (Fun x [] result body)) (are_first_decls decls) e).1
     ]
 first_takes_nothing k (Fun x (p ∷ ps) result body ∷ decls) f e =
-    absurd (let no : false ≡ true = and_first (is_first_decl (Fun x (p ∷ ps) result body)) (are_first_decls decls) e in cc)
+    absurd (false≢true (and_parts (is_first_decl (Fun x (p ∷ ps) result body)) (are_first_decls decls) e).0)
 first_takes_nothing k (decl ∷ decls) f e =
-    first_takes_nothing (k + 1) decls f (and_second (is_first_decl decl) (are_first_decls decls) e)
+    first_takes_nothing (k + 1) decls f (and_parts (is_first_decl decl) (are_first_decls decls) e).1
 
 -- the functions of a specification that can be run have no parameters
-pub functions_take_nothing : (spec : Spec) → IsFirstForm spec → (f : Name) → IfSome (function_from 0 spec.decls f) (λ function. function.params ≡ [])
+functions_take_nothing : (spec : Spec) → IsRunnable spec → (f : Name) → IfSome (function_from 0 spec.decls f) (λ function. function.params ≡ [])
 functions_take_nothing spec first f = first_takes_nothing 0 spec.decls f first.forms
+
+pub decls_are_clean : (spec : Spec) → IsTyped spec → HasCleanDecls spec
+decls_are_clean spec typed = record { clean = no_inner_faults spec typed }
 
 pub registers_are_distinct : (spec : Spec) → IsTyped spec → HasDistinctRegisters spec
 registers_are_distinct spec typed = record { differ = registers_differ spec typed }
 
-pub step_function_is_there : (spec : Spec) → IsFirstForm spec → HasStepFunction spec
+pub step_function_is_there : (spec : Spec) → IsRunnable spec → HasStepFunction spec
 step_function_is_there spec first = record {
   few = few_declarations spec first.typed;
   named = step_is_declared spec first.typed;
   found = step_function_is_declared spec first.typed;
-  takes_nothing = functions_take_nothing spec first (unwrap_or (step_of spec.decls) []);
+  takes_nothing = functions_take_nothing spec first (step_name_of spec.decls);
 }

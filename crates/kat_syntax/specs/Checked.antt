@@ -1,11 +1,11 @@
 -- What the tables of a specification say.
-use Rattle.std.specs.Prelude.{◌≡◌, ◌<◌, ◌^◌, ℕ, List, [], IsSome, Option, Some, option_and_then, slice_get, unwrap_or}
+use Rattle.std.specs.Prelude.{◌≡◌, ◌<◌, ◌^◌, ℕ, List, IsSome, Option, Some, option_and_then, slice_get}
 use Rattle.kat_ast.specs.Spec.{Spec}
 use Rattle.kat_ast.specs.declared.decl.DeclForm.{DeclForm}
 use Rattle.kat_ast.specs.declared.type_name.Param.{Param}
 use Rattle.kat_ast.specs.declared.stm.Stm.{Stm}
-use Rattle.kat_syntax.specs.Tables.{Name, Function, function_at, function_from, step_of}
-use Rattle.kat_syntax.specs.Runnable.{IsFirstForm}
+use Rattle.kat_syntax.specs.Tables.{Name, Function, function_at, step_function_of}
+use Rattle.kat_syntax.specs.Runnable.{IsRunnable}
 use Rattle.kat_syntax.specs.Cycle.{register_names}
 
 -- the function that the declaration of this number declares
@@ -14,19 +14,22 @@ declared_at decls k = option_and_then (function_at k) (slice_get decls k)
 
 -- the step function is declared at this number
 pub record IsStep (decls : List DeclForm) (step : ℕ) : Type 0 where
-  pub found : function_from 0 decls (unwrap_or (step_of decls) []) ≡ declared_at decls step
+  pub found : step_function_of decls ≡ declared_at decls step
   pub there : IsSome (declared_at decls step)
   pub number : step < 2 ^ 32
 
--- the specification can be run, its registers' names stand in the table and in the list, and its step function is
--- declared at this number
+-- the specification can be run, its registers' names stand in the table and in the list, and its
+-- step function is declared at this number
 pub record HasTables (spec : Spec) (registers listed : List Name) (step : ℕ) : Type 0 where
-  pub first : IsFirstForm spec
+  pub runnable : IsRunnable spec
   pub names : registers ≡ register_names spec.decls
   pub list : listed ≡ register_names spec.decls
   pub steps : IsStep spec.decls step
 
--- the step function is declared at this number, and this body stands in the declaration at this tree
+-- the step function is declared at this number, and this body stands in the declaration at this
+-- tree
 abbrev pub IsStepFunction : Spec → ℕ → Stm → ℕ → Type 0
 IsStepFunction spec decl body body_at =
-    (params : List Param) × (function_from 0 spec.decls (unwrap_or (step_of spec.decls) []) ≡ Some (record { decl = decl; params = params; body = body; body_at = body_at }))
+    (params : List Param)
+    × (step_function_of spec.decls
+    ≡ Some (record { decl = decl; params = params; body = body; body_at = body_at }))

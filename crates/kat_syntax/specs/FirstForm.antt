@@ -1,4 +1,5 @@
--- The forms of the machines that can be run today: registers of bits alone, and functions without parameters.
+-- The forms of the machines that can be run today: registers of bits alone, and functions without
+-- parameters.
 use Rattle.std.specs.Prelude.{Bool, true, false, ◌&&◌, List, [], map}
 use Rattle.kat_value.specs.declared.op.Op.{Op}
 use Rattle.kat_value.specs.declared.op.Op.TheVariants.{Eq, Ult, Add}

@@ -1,3 +1,4 @@
+pub mod Limits
 pub mod FirstForm
 pub mod Tables
 pub mod Machine

@@ -1,6 +1,8 @@
--- The text of a run: a piece for each boundary and one for the end. It is said of the boundary states alone.
-use Rattle.std.specs.Prelude.{ℕ, zero, suc, true, false, ◌+◌, ◌-◌, ◌/◌, ◌%◌, if◌then◌else◌, nat_lt, List, [], ◌∷◌, ◌++◌, length, codes}
+-- The text of a run: a piece for each boundary and one for the end. It is said of the boundary
+-- states alone.
+use Rattle.std.specs.Prelude.{ℕ, true, false, ◌+◌, ◌-◌, ◌/◌, if◌then◌else◌, List, [], ◌∷◌, ◌++◌, length, codes}
 use Rattle.std.specs.Fmt.{decimal}
+use Rattle.kat_text.specs.Hexadecimal.{hex_digits}
 use Rattle.kat_value.specs.declared.value.Value.{Value}
 use Rattle.kat_value.specs.declared.value.Value.TheVariants.{Unit, Bool as Truth, Bits}
 use Rattle.kat_value.specs.Equality.{value_eq}
@@ -9,15 +11,6 @@ use Rattle.kat_syntax.specs.Tables.{Name}
 use Rattle.kat_syntax.specs.Machine.{MachineState}
 use Rattle.kat_syntax.specs.Cycle.{register_names}
 use Rattle.kat_syntax.specs.Run.{Run, RunEnd, Ended, OutIn, FailedIn}
-
--- `0` to `9` and `a` to `f`
-abbrev pub hex_digit : ℕ → ℕ
-hex_digit d = if nat_lt d 10 then 48 + d else 87 + d
-
--- this many hexadecimal digits, the last one first made
-abbrev pub hex_digits : ℕ → ℕ → List ℕ
-hex_digits zero n = []
-hex_digits (suc count) n = hex_digits count (n / 16) ++ hex_digit (n % 16) ∷ []
 
 -- bits have as many digits as a quarter of the width, rounded up
 abbrev pub text_of_value : Value → List ℕ
@@ -54,7 +47,8 @@ boundary_piece k lines = codes "at " ++ decimal k ++ newline ++ lines
 abbrev pub later_pieces : List Name → ℕ → MachineState → List MachineState → List (List ℕ)
 later_pieces names k before [] = []
 later_pieces names k before (state ∷ states) =
-    boundary_piece k (changed_lines names before.registers state.registers) ∷ later_pieces names (k + 1) state states
+    boundary_piece k (changed_lines names before.registers state.registers)
+    ∷ later_pieces names (k + 1) state states
 
 -- boundary 0 has every register, a later one those whose value is not that of the boundary before
 abbrev pub boundary_pieces : List Name → List MachineState → List (List ℕ)
@@ -67,7 +61,8 @@ abbrev pub end_piece : ℕ → RunEnd → List ℕ
 end_piece last Ended = codes "ended " ++ decimal last ++ newline
 end_piece last (OutIn cycle) = codes "out " ++ decimal cycle ++ newline
 end_piece last (FailedIn cycle place) =
-    codes "failed " ++ decimal cycle ++ codes " " ++ decimal place.decl ++ codes " " ++ decimal place.tree ++ newline
+    codes "failed " ++ decimal cycle ++ codes " " ++ decimal place.decl
+    ++ codes " " ++ decimal place.tree ++ newline
 
 -- pieces one after another
 abbrev pub joined : List (List ℕ) → List ℕ

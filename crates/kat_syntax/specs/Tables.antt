@@ -1,5 +1,5 @@
 -- What the declarations of a specification name, in order of declaration.
-use Rattle.std.specs.Prelude.{ℕ, Bool, false, ◌+◌, if◌then◌else◌, List, [], ◌∷◌, Option, Some, None}
+use Rattle.std.specs.Prelude.{ℕ, Bool, false, ◌+◌, if◌then◌else◌, List, [], ◌∷◌, Option, Some, None, unwrap_or}
 use Rattle.std.specs.Str.{bytes_eq}
 use Rattle.kat_ast.specs.declared.type_name.Param.{Param}
 use Rattle.kat_ast.specs.declared.type_name.TypeName.{TypeName}
@@ -22,7 +22,8 @@ pub record RegisterDecl : Type 0 where
 -- the declared registers, in order
 abbrev pub registers_of : List DeclForm → List RegisterDecl
 registers_of [] = []
-registers_of (Register x type kind ∷ decls) = record { name = x; type = type; kind = kind } ∷ registers_of decls
+registers_of (Register x type kind ∷ decls) =
+    record { name = x; type = type; kind = kind } ∷ registers_of decls
 registers_of (_ ∷ decls) = registers_of decls
 
 -- a declared function, with the numbers of its declaration and of its body's tree
@@ -35,7 +36,12 @@ pub record Function : Type 0 where
 -- the function that a declaration of this number declares, if it declares one
 abbrev pub function_at : ℕ → DeclForm → Option Function
 function_at k (Fun x params result body) =
-    Some (record { decl = k; params = params; body = body; body_at = 3 + trees_of_params params + trees_of_type result })
+    Some (record {
+      decl = k;
+      params = params;
+      body = body;
+      body_at = 3 + trees_of_params params + trees_of_type result;
+    })
 function_at k _ = None
 
 -- whether a declaration is a function of this name
@@ -46,10 +52,19 @@ is_function f _ = false
 -- the first function of this name, the first declaration having the number k
 abbrev pub function_from : ℕ → List DeclForm → Name → Option Function
 function_from k [] f = None
-function_from k (decl ∷ decls) f = if is_function f decl then function_at k decl else function_from (k + 1) decls f
+function_from k (decl ∷ decls) f =
+    if is_function f decl then function_at k decl else function_from (k + 1) decls f
 
 -- the name in the first `(step f)`
 abbrev pub step_of : List DeclForm → Option Name
 step_of [] = None
 step_of (Step f ∷ decls) = Some f
 step_of (_ ∷ decls) = step_of decls
+
+-- that name, empty where there is none
+abbrev pub step_name_of : List DeclForm → Name
+step_name_of decls = unwrap_or (step_of decls) []
+
+-- the function that a cycle calls
+abbrev pub step_function_of : List DeclForm → Option Function
+step_function_of decls = function_from 0 decls (step_name_of decls)

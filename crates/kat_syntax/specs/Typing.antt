@@ -1,14 +1,18 @@
--- The faults of typing: each condition that makes a specification ill-typed, at each tree where it holds. This is said
--- of the forms of the machines that can be run today. Any other form adds nothing yet.
-use Rattle.std.specs.Prelude.{ℕ, ◌+◌, ◌^◌, ◌==◌, ◌&&◌, ◌||◌, nat_le, nat_lt, Bool, true, false, not, if◌then◌else◌, List, [], ◌∷◌, ◌++◌, length, map, Option, None, Some, is_some, option_and_then, slice_get}
+-- The faults of typing: each condition that makes a specification ill-typed, at each tree where it
+-- holds. All are said of the forms of the machines that can be run today; of other forms not yet
+-- all.
+use Rattle.std.specs.Prelude.{ℕ, ◌+◌, ◌^◌, ◌&&◌, ◌||◌, nat_le, nat_lt, Bool, true, false, not, if◌then◌else◌, List, [], ◌∷◌, ◌++◌, length, map, Option, None, Some, is_some, option_and_then, slice_get}
 use Rattle.std.specs.List.{list_any}
 use Rattle.std.specs.Option.{option_or, option_flatten}
 use Rattle.std.specs.Str.{bytes_eq}
 use Rattle.kat_names.specs.Names.{position_of}
 use Rattle.kat_value.specs.declared.op.Op.{Op}
-use Rattle.kat_value.specs.declared.op.Op.TheVariants.{Eq, Ult, Add}
+use Rattle.kat_value.specs.declared.signature.Signature.{Signature}
 use Rattle.kat_value.specs.declared.types.Ty.{Ty}
 use Rattle.kat_value.specs.declared.types.Ty.TheVariants as ty
+use Rattle.kat_value.specs.Signatures.{signature_of, agree, bits_of, takes, fixed_behind, type_given}
+use Rattle.kat_value.specs.Widths.{is_width}
+use Rattle.kat_value.specs.Words.{numbers_of_op}
 use Rattle.kat_ast.specs.declared.expr.Expr.{Expr}
 use Rattle.kat_ast.specs.declared.expr.Expr.TheOpen.{Expr-F, Name as Named, Unit, Bits, Apply}
 use Rattle.kat_ast.specs.declared.expr.Expr.TheFolds.{map-Expr, fold-Expr}
@@ -22,6 +26,8 @@ use Rattle.kat_ast.specs.declared.decl.DeclForm.TheVariants.{Register, Fun, Step
 use Rattle.kat_ast.specs.Spec.{Spec}
 use Rattle.kat_ast.specs.Expressions.{expr_trees, trees_of_expr}
 use Rattle.kat_ast.specs.Statements.{stm_trees}
+use Rattle.kat_syntax.specs.FirstForm.{is_first_op}
+use Rattle.kat_syntax.specs.Limits.{most_declarations}
 use Rattle.kat_syntax.specs.Tables.{Name, RegisterDecl, registers_of, function_from}
 
 -- a fault inside a form: its tree, the form being tree 0, and the code of the condition
@@ -29,7 +35,8 @@ pub record Fault : Type 0 where
   pub tree : ℕ
   pub code : ℕ
 
--- a fault of a specification: its declaration, its tree in the declaration, and the code of the condition
+-- a fault of a specification: its declaration, its tree in the declaration, and the code of the
+-- condition
 pub record TypeFault : Type 0 where
   pub decl : ℕ
   pub tree : ℕ
@@ -77,47 +84,23 @@ unless holds tree code = if holds then [] else record { tree = tree; code = code
 
 -- the faults of a part whose tree has this number
 abbrev pub inside : ℕ → List Fault → List Fault
-inside at faults = map (λ (fault : Fault). record { tree = at + fault.tree; code = fault.code }) faults
+inside at faults =
+    map (λ (fault : Fault). record { tree = at + fault.tree; code = fault.code }) faults
 
 -- the faults of the declaration that has this number
 abbrev pub in_decl : ℕ → List Fault → List TypeFault
-in_decl k faults = map (λ (fault : Fault). record { decl = k; tree = fault.tree; code = fault.code }) faults
-
--- whether two types are the same
-abbrev pub ty_eq : Ty → Ty → Bool
-ty_eq ty.Unit ty.Unit = true
-ty_eq ty.Bool ty.Bool = true
-ty_eq (ty.Bits v) (ty.Bits w) = v == w
-ty_eq (ty.Enum i) (ty.Enum j) = i == j
-ty_eq (ty.Union i) (ty.Union j) = i == j
-ty_eq (ty.Rec i) (ty.Rec j) = i == j
-ty_eq _ _ = false
-
--- whether two trees may be of one type; a tree whose type nothing fixes may be of any
-abbrev pub agree : Option Ty → Option Ty → Bool
-agree None u = true
-agree (Some t) None = true
-agree (Some t) (Some u) = ty_eq t u
+in_decl k faults =
+    map (λ (fault : Fault). record { decl = k; tree = fault.tree; code = fault.code }) faults
 
 -- the type of a tree that is one of two; nothing fixes it where they differ
 abbrev pub joined : Option Ty → Option Ty → Option Ty
 joined t u = if agree t u then option_or t u else None
 
--- whether a tree may be of a type of bits
-abbrev pub may_be_bits : Option Ty → Bool
-may_be_bits None = true
-may_be_bits (Some (ty.Bits w)) = true
-may_be_bits (Some _) = false
-
--- whether a width is 1 to 64
-abbrev pub is_width : ℕ → Bool
-is_width w = nat_le 1 w && nat_le w 64
-
 -- the type that a written type is
 abbrev pub type_of_name : TypeName → Option Ty
 type_of_name UnitName = Some ty.Unit
 type_of_name BoolName = Some ty.Bool
-type_of_name (BitsName w) = if is_width w then Some (ty.Bits w) else None
+type_of_name (BitsName w) = bits_of w
 type_of_name _ = None
 
 -- the faults of a written type whose tree has this number
@@ -133,7 +116,8 @@ pub record Declared : Type 0 where
 
 -- the type of the first register of this name, if there is one
 abbrev pub register_type : Declared → Name → Option (Option Ty)
-register_type declared r = option_and_then (λ at. slice_get declared.types at) (position_of declared.registers r)
+register_type declared r =
+    option_and_then (λ at. slice_get declared.types at) (position_of declared.registers r)
 
 -- whether a name stands among names
 abbrev pub is_among : List Name → Name → Bool
@@ -148,55 +132,49 @@ abbrev pub local_type : Scope → Name → Option (Option Ty)
 local_type [] x = None
 local_type (local ∷ scope) x = if bytes_eq local.0 x then Some local.1 else local_type scope x
 
--- what typing knows of a form: how many trees it has, its type where something fixes it, and its faults
+-- what typing knows of a form: how many trees it has, its type where something fixes it, and its
+-- faults
 pub record Known : Type 0 where
   pub trees : ℕ
   pub type : Option Ty
   pub faults : List Fault
 
--- whether an argument of this type may stand behind arguments that fixed that one
-abbrev pub takes : Op → Option Ty → Option Ty → Bool
-takes Eq fixed type = agree fixed type
-takes Ult fixed type = may_be_bits type && agree fixed type
-takes Add fixed type = may_be_bits type && agree fixed type
-takes _ fixed type = true
+-- the type of an operation that machines run, on arguments of these types; none of any other
+abbrev pub type_of_apply : Op → List (Option Ty) → Option Ty
+type_of_apply op args = if is_first_op op then type_given [] (signature_of op) args else None
 
--- the type that is fixed behind one more argument
-abbrev pub fixed_behind : Op → Option Ty → Option Ty → Option Ty
-fixed_behind op fixed type = if takes op fixed type then option_or fixed type else fixed
-
--- the type that all arguments fix
-abbrev pub fixed_by : Op → Option Ty → List Known → Option Ty
-fixed_by op fixed [] = fixed
-fixed_by op fixed (arg ∷ args) = fixed_by op (fixed_behind op fixed arg.type) args
-
--- the type of an operation whose arguments fix that one
-abbrev pub type_of_op : Op → Option Ty → Option Ty
-type_of_op Eq fixed = Some ty.Bool
-type_of_op Ult fixed = Some ty.Bool
-type_of_op Add fixed = fixed
-type_of_op _ fixed = None
-
--- the faults of arguments, the first having this tree
-abbrev pub args_faults : Op → Option Ty → ℕ → List Known → List Fault
-args_faults op fixed at [] = []
-args_faults op fixed at (arg ∷ args) =
+-- the faults of arguments, the first standing at this position and having this tree
+abbrev pub args_faults : Signature → ℕ → Option Ty → ℕ → List Known → List Fault
+args_faults signature k fixed at [] = []
+args_faults signature k fixed at (arg ∷ args) =
     inside at arg.faults
-    ++ (unless (takes op fixed arg.type) at type_other ++ args_faults op (fixed_behind op fixed arg.type) (at + arg.trees) args)
+    ++ (unless (takes signature k fixed arg.type) at type_other
+    ++ args_faults signature (k + 1) (fixed_behind signature k fixed arg.type)
+    (at + arg.trees) args)
+
+-- the types of arguments
+abbrev pub types_of_args : List Known → List (Option Ty)
+types_of_args args = map (λ (arg : Known). arg.type) args
+
+-- the tree of an operation's first argument, behind its word and its numbers
+abbrev pub first_arg_at : Op → ℕ
+first_arg_at op = 2 + length (numbers_of_op op)
 
 -- the type of one layer of an expression
 abbrev pub expr_type : Scope → Expr-F Known → Option Ty
 expr_type scope (Named x) = option_flatten (local_type scope x)
 expr_type scope Unit = Some ty.Unit
-expr_type scope (Bits width number) = if is_width width then Some (ty.Bits width) else None
-expr_type scope (Apply op args) = type_of_op op (fixed_by op None args)
+expr_type scope (Bits width number) = bits_of width
+expr_type scope (Apply op args) = type_of_apply op (types_of_args args)
 expr_type scope _ = None
 
 -- the faults of one layer of an expression: its own, and those of its parts
 abbrev pub expr_faults : Scope → Expr-F Known → List Fault
 expr_faults scope (Named x) = unless (is_some (local_type scope x)) 0 name_unknown
-expr_faults scope (Bits width number) = unless (is_width width) 2 no_width ++ unless (nat_lt number (2 ^ width)) 3 literal_large
-expr_faults scope (Apply op args) = args_faults op None 2 args
+expr_faults scope (Bits width number) =
+    unless (is_width width) 2 no_width ++ unless (nat_lt number (2 ^ width)) 3 literal_large
+expr_faults scope (Apply op args) =
+    args_faults (signature_of op) 0 None (first_arg_at op) args
 expr_faults scope _ = []
 
 -- one layer of an expression, with what is known of each part in its place
@@ -239,9 +217,10 @@ stm_faults declared (If test then_ otherwise) scope =
     ++ unless (agree (then_ scope).type (otherwise scope).type) 0 branches_differ)))
 stm_faults declared (Read r) scope = unless (is_some (register_type declared r)) 2 name_unknown
 stm_faults declared (Write r e) scope =
+    let wanted = option_flatten (register_type declared r) in
     unless (is_some (register_type declared r)) 2 name_unknown
     ++ (inside 3 (known_of_expr scope e).faults
-    ++ unless (agree (option_flatten (register_type declared r)) (known_of_expr scope e).type) 3 type_other)
+    ++ unless (agree wanted (known_of_expr scope e).type) 3 type_other)
 stm_faults declared _ scope = []
 
 -- one layer of a statement, with what is known of each part in its place
@@ -304,24 +283,30 @@ decl_faults decls _ = []
 -- the faults inside the declarations, the first having the number k
 abbrev pub inner_faults : List DeclForm → ℕ → List DeclForm → List TypeFault
 inner_faults decls k [] = []
-inner_faults decls k (decl ∷ more) = in_decl k (decl_faults decls decl) ++ inner_faults decls (k + 1) more
+inner_faults decls k (decl ∷ more) =
+    in_decl k (decl_faults decls decl) ++ inner_faults decls (k + 1) more
 
 -- whether a declaration is a step declaration
 abbrev pub is_step : DeclForm → Bool
 is_step (Step f) = true
 is_step _ = false
 
--- each second step declaration, and a missing one; the first declaration has the number k, and a step stands before it or not
+-- each second step declaration, and a missing one; the first declaration has the number k, and a
+-- step stands before it or not
 abbrev pub step_faults : Bool → ℕ → List DeclForm → List TypeFault
 step_faults seen k [] = in_decl k (unless seen 0 not_once)
-step_faults seen k (decl ∷ decls) = in_decl k (unless (not (seen && is_step decl)) 0 not_once) ++ step_faults (seen || is_step decl) (k + 1) decls
+step_faults seen k (decl ∷ decls) =
+    in_decl k (unless (not (seen && is_step decl)) 0 not_once)
+    ++ step_faults (seen || is_step decl) (k + 1) decls
 
--- a specification has at most 4,096 declarations; the fault stands at the first that is too many
+-- more declarations than a specification may have; the fault stands at the first that is too many
 abbrev pub count_faults : List DeclForm → List TypeFault
-count_faults decls = in_decl 4096 (unless (nat_le (length decls) 4096) 0 too_many)
+count_faults decls =
+    in_decl most_declarations (unless (nat_le (length decls) most_declarations) 0 too_many)
 
 -- all faults of a specification
 abbrev pub type_faults : Spec → List TypeFault
 type_faults spec =
     count_faults spec.decls
-    ++ (step_faults false 0 spec.decls ++ (taken_faults [] (names_from 0 spec.decls) ++ inner_faults spec.decls 0 spec.decls))
+    ++ (step_faults false 0 spec.decls
+    ++ (taken_faults [] (names_from 0 spec.decls) ++ inner_faults spec.decls 0 spec.decls))

@@ -1,24 +1,24 @@
-// A specification that can be run, with its tables.
+//! A specification that can be run, with its tables.
 
 ghost use Rattle.std.specs.Prelude.{◌≡◌, ◌+◌, ◌<◌, ◌^◌, true, IfOk};
 ghost use Rattle.kat_names.specs.Names.{position_of};
 ghost use Rattle.kat_ast.specs.Statements.{trees_of_stm};
 ghost use Rattle.kat_syntax.specs.FirstForm.{is_first_stm};
-ghost use Rattle.kat_syntax.specs.Runnable.{IsFirstForm};
+ghost use Rattle.kat_syntax.specs.Runnable.{IsRunnable};
 ghost use Rattle.kat_syntax.specs.Cycle.{register_names};
 ghost use Rattle.kat_syntax.specs.Checked.{IsStepFunction};
 
 use crate::tables::{register_list, register_table, step_declaration};
-use kat_ast::{DeclForm, Spec, Stm, count_params, count_type};
+use kat_ast::{DeclForm, Spec, Stm, count_params, count_type, places_are_of_the_tree};
 use kat_names::Table;
 use kat_text::Text;
 use sqlite_items::Items;
 use std::alloc::{AllocError, Global};
 use std::marker::Model;
 
-/// A specification whose cycles can be run: its declarations are of the forms that a machine can be run of, and no tree
-/// has a fault of typing. The table and the list of its registers' names and the number of its step function's
-/// declaration stand beside it, so that no cycle looks for them.
+/// A specification whose cycles can be run: its declarations are of the forms that a machine can be
+/// run of, and no tree has a fault of typing. The table and the list of its registers' names and
+/// the number of its step function's declaration stand beside it, so that no cycle looks for them.
 #[derive(Drop)]
 pub struct Checked {
     spec: Spec,
@@ -36,7 +36,9 @@ impl Model for Checked {
 
     ghost Value = { Spec };
 
-    ghost coded = { Prim.hlevel (codes, expr.the_row.coded, stm.the_row.coded, assertion.the_row.coded) };
+    ghost coded = {
+        Prim.hlevel (codes, expr.the_row.coded, stm.the_row.coded, assertion.the_row.coded)
+    };
 
     ghost use Rattle.kat_syntax.specs.Checked.{HasTables};
 
@@ -48,7 +50,7 @@ impl Model for Checked {
 impl Checked {
     /// A specification with its tables.
     pub fn new(alloc: Global, spec: Spec) -> Result<Checked, AllocError>
-        requires { IsFirstForm spec }
+        requires { IsRunnable spec }
         ensures { IfOk result (λ checked. checked ≡ spec) }
     {
         let decls = spec.decls();
@@ -90,6 +92,7 @@ impl Checked {
         ensures small { result.body_at + trees_of_stm result.body.now < 2 ^ 32 }
         ensures first { is_first_stm result.body.now ≡ true }
     {
+        places_are_of_the_tree();
         match self.spec.decls()[self.step].form() {
             DeclForm::Fun {
                 params,
@@ -109,7 +112,10 @@ impl Checked {
 /// The step function's body, with the numbers of its declaration and of its tree there.
 #[derive(Clone, Copy, Drop)]
 pub struct StepFunction<'a> {
+    /// The number of its declaration.
     pub decl: u32,
+    /// Its body.
     pub body: &'a Stm,
+    /// The number of the body's tree in the declaration.
     pub body_at: u32,
 }

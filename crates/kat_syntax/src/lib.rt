@@ -1,9 +1,11 @@
-//! What a specification means, in `specs/`: typing, the meaning of expressions and statements, one cycle of the machine, a
-//! run over a list of events, and the text of a run's states. The forms themselves are those of `kat_ast`, passed on here.
+//! What a specification means, in `specs/`: typing, the meaning of expressions and statements, one
+//! cycle of the machine, a run over a list of events, and the text of a run's states. The forms
+//! themselves are those of `kat_ast`, passed on here.
 #![tactic(auto)]
 
 mod checked;
 mod laws;
+mod limits;
 mod tables;
 
 pub use checked::{Checked, StepFunction};
@@ -13,4 +15,5 @@ pub use kat_ast::{
     places_are_of_the_tree, specifications_can_be_written,
 };
 pub use laws::{statements_do_their_parts, typed_specifications_have_tables};
+pub use limits::MOST_DECLARATIONS;
 pub use tables::is_function;

@@ -1,9 +1,10 @@
-// The tables of a specification.
+//! The tables of a specification.
 
-ghost use Rattle.std.specs.Prelude.{◌≡◌, ◌≢◌, ◌<◌, ◌≤◌, ◌^◌, ◌++◌, ◌∷◌, [], ℕ, length, slice_get, unwrap_or, IfOk, OnOk, IsSome};
+ghost use Rattle.std.specs.Prelude.{◌≡◌, ◌≢◌, ◌<◌, ◌≤◌, ◌^◌, ◌++◌, ◌∷◌, [], ℕ, length, slice_get, IfOk, OnOk, IsSome};
 ghost use Rattle.std.specs.Option.{option_copied};
 ghost use Rattle.kat_names.specs.Names.{AllDiffer};
-ghost use Rattle.kat_syntax.specs.Tables.{function_from, is_function, step_of};
+ghost use Rattle.kat_syntax.specs.Limits.{most_declarations};
+ghost use Rattle.kat_syntax.specs.Tables.{function_from, is_function, step_of, step_function_of};
 ghost use Rattle.kat_syntax.specs.Cycle.{register_names};
 ghost use Rattle.kat_syntax.specs.Checked.{declared_at, IsStep};
 
@@ -13,7 +14,22 @@ use kat_text::Text;
 use sqlite_items::Items;
 use std::alloc::{AllocError, Global};
 
-// Adds a name that does not stand in the table.
+/// The names of the registers, in order of declaration.
+pub fn register_table(alloc: Global, decls: &[Decl]) -> Result<Table, AllocError>
+    requires distinct { AllDiffer (register_names decls.now) }
+    requires few { length decls.now ≤ most_declarations }
+    ensures { IfOk result (λ names. names ≡ register_names decls.now) }
+{
+    let mut names = Table::new(alloc)?;
+    for decl in decls {
+        if let DeclForm::Register { name, .. } = decl.form() {
+            add_new(&mut names, name)?;
+        }
+    }
+    Ok(names)
+}
+
+/// Adds a name that does not stand in the table.
 fn add_new(names: &mut Table, name: &Text) -> Result<(), AllocError>
     requires room { length names.old < 2 ^ 32 }
     requires absent { (i : ℕ) → slice_get names.old i ≢ Some name.now }
@@ -24,21 +40,6 @@ fn add_new(names: &mut Table, name: &Text) -> Result<(), AllocError>
         Err(NameError::Twice(_)) => unreachable!(),
         Err(NameError::Memory) => Err(AllocError),
     }
-}
-
-/// The names of the registers, in order of declaration.
-pub fn register_table(alloc: Global, decls: &[Decl]) -> Result<Table, AllocError>
-    requires distinct { AllDiffer (register_names decls.now) }
-    requires few { length decls.now ≤ 4096 }
-    ensures { IfOk result (λ names. names ≡ register_names decls.now) }
-{
-    let mut names = Table::new(alloc)?;
-    for decl in decls {
-        if let DeclForm::Register { name, .. } = decl.form() {
-            add_new(&mut names, name)?;
-        }
-    }
-    Ok(names)
 }
 
 /// The same names as a list.
@@ -54,7 +55,20 @@ pub fn register_list(alloc: Global, decls: &[Decl]) -> Result<Items<Text>, Alloc
     Ok(names)
 }
 
-// The name in the first `(step f)`.
+/// The number of the declaration of the step function.
+pub fn step_declaration(decls: &[Decl]) -> usize
+    requires named { IsSome (step_of decls.now) }
+    requires declared { IsSome (step_function_of decls.now) }
+    requires few { length decls.now ≤ most_declarations }
+    ensures { IsStep decls.now result }
+{
+    let Some(name) = step_name(decls) else {
+        unreachable!()
+    };
+    function_number(decls, name)
+}
+
+/// The name in the first `(step f)`.
 fn step_name(decls: &[Decl]) -> Option<&Text>
     ensures { option_copied result ≡ step_of decls.now }
 {
@@ -66,17 +80,7 @@ fn step_name(decls: &[Decl]) -> Option<&Text>
     None
 }
 
-/// Whether a declaration is a function of this name.
-pub fn is_function(decl: &Decl, name: &Text) -> bool
-    ensures { result ≡ is_function name.now decl.now }
-{
-    match decl.form() {
-        DeclForm::Fun { name: function, .. } => function.same(name),
-        _ => false,
-    }
-}
-
-// The number of the first declaration of a function of this name.
+/// The number of the first declaration of a function of this name.
 fn function_number(decls: &[Decl], name: &Text) -> usize
     requires { IsSome (function_from 0 decls.now name.now) }
     ensures found { function_from 0 decls.now name.now ≡ declared_at decls.now result }
@@ -91,15 +95,12 @@ fn function_number(decls: &[Decl], name: &Text) -> usize
     unreachable!()
 }
 
-/// The number of the declaration of the step function.
-pub fn step_declaration(decls: &[Decl]) -> usize
-    requires named { IsSome (step_of decls.now) }
-    requires declared { IsSome (function_from 0 decls.now (unwrap_or (step_of decls.now) [])) }
-    requires few { length decls.now ≤ 4096 }
-    ensures { IsStep decls.now result }
+/// Whether a declaration is a function of this name.
+pub fn is_function(decl: &Decl, name: &Text) -> bool
+    ensures { result ≡ is_function name.now decl.now }
 {
-    let Some(name) = step_name(decls) else {
-        unreachable!()
-    };
-    function_number(decls, name)
+    match decl.form() {
+        DeclForm::Fun { name: function, .. } => function.same(name),
+        _ => false,
+    }
 }

@@ -2,6 +2,7 @@
 use Rattle.std.proofs.Common.{◌≡◌, ◌&&◌, Bool, true, false, not, refl, ap, sym, ◌∙◌, if◌then◌else◌, ◌∷◌, Option, Some, None}
 use Rattle.std.specs.Prelude.{option_and_then, is_some}
 use Rattle.std.specs.Option.{option_flatten}
+use Rattle.kat_value.specs.Signatures.{agree}
 use Rattle.kat_value.specs.declared.types.Ty.{Ty}
 use Rattle.kat_value.specs.declared.types.Ty.TheVariants.{Unit as UnitTy, Bool as BoolTy}
 use Rattle.kat_ast.specs.declared.expr.Expr.{Expr}
@@ -11,7 +12,7 @@ use Rattle.kat_ast.specs.declared.stm.Stm.TheOpen.{Stm-F, Ret, Let, If, Write}
 use Rattle.kat_ast.specs.declared.stm.Stm.TheViews.{out-Stm, outs-Ret, outs-Let, outs-If, outs-Write}
 use Rattle.kat_ast.specs.declared.stm.Stm.TheFolds.{map-Stm, fold_out-Stm}
 use Rattle.kat_syntax.specs.Tables.{Name}
-use Rattle.kat_syntax.specs.Typing.{Scope, Declared, Known, agree, joined, is_in_scope, register_type, known_of_expr, stm_known, known_of_stm}
+use Rattle.kat_syntax.specs.Typing.{Scope, Declared, Known, joined, is_in_scope, register_type, known_of_expr, stm_known, known_of_stm}
 use Rattle.kat_typing.specs.Clean.{when, is_nil, clean}
 use Rattle.kat_typing.proofs.Clean.{is_nil_append, is_nil_map, is_nil_unless}
 

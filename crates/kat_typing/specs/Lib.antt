@@ -1,4 +1,4 @@
 pub mod Clean
 pub mod Declares
 pub mod Scopes
-pub mod FirstForm
+pub mod Runnable

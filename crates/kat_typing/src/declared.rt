@@ -1,9 +1,9 @@
-// What the declarations declare.
+//! What the declarations declare.
 
-ghost use Rattle.std.specs.Prelude.{◌≡◌, ◌<◌, ◌≤◌, ◌^◌, [], length, IfOk};
-ghost use Rattle.kat_syntax.specs.Typing.{is_among, register_type, names_from, declared_by, taken_faults};
-ghost use Rattle.kat_typing.specs.Clean.{when, is_nil};
-ghost use Rattle.kat_typing.specs.Declares.{nothing_declared, name_added, with_decl};
+ghost use Rattle.std.specs.Prelude.{◌≡◌, ◌<◌, ◌≤◌, ◌^◌, length, IfOk};
+ghost use Rattle.kat_syntax.specs.Limits.{most_declarations};
+ghost use Rattle.kat_syntax.specs.Typing.{is_among, register_type};
+ghost use Rattle.kat_typing.specs.Declares.{nothing_declared, name_added, with_decl, declared_once};
 
 use crate::types::type_of_name;
 use kat_names::{NameError, Table};
@@ -30,29 +30,22 @@ impl Model for Declared {
     ghost view = { λ d. record { names = d.names; registers = d.registers; types = d.types } };
 }
 
-// Adds a name to a table, or gives `None` where it stands there already.
-fn with_name(mut table: Table, name: &Text) -> Result<Option<Table>, AllocError>
-    requires { length table < 2 ^ 32 }
-    ensures { IfOk result (λ found. found ≡ name_added table name.now) }
+/// What declarations declare, or `None` where a name is declared twice.
+pub fn declare(alloc: Global, decls: &[Decl]) -> Result<Option<Declared>, AllocError>
+    requires { length decls.now ≤ most_declarations }
+    ensures { IfOk result (λ found. found ≡ declared_once decls.now) }
 {
-    match table.add(name.as_str()) {
-        Ok(_) => Ok(Some(table)),
-        Err(NameError::Twice(_)) => Ok(None),
-        Err(NameError::Memory) => Err(AllocError),
+    let mut declared = Declared::new(alloc)?;
+    for decl in decls {
+        match declared.with(decl.form())? {
+            Some(more) => declared = more,
+            None => return Ok(None),
+        }
     }
+    Ok(Some(declared))
 }
 
 impl Declared {
-    fn new(alloc: Global) -> Result<Declared, AllocError>
-        ensures { IfOk result (λ d. d ≡ nothing_declared) }
-    {
-        Ok(Declared {
-            names: Table::new(alloc)?,
-            registers: Table::new(alloc)?,
-            types: Items::new(alloc),
-        })
-    }
-
     /// Whether a name is declared.
     #[tactic(auto, using(crate::proofs::Declares::found_among))]
     pub fn has_name(&self, name: &Text) -> bool
@@ -69,7 +62,19 @@ impl Declared {
         self.types.get(at as usize).copied()
     }
 
-    // What one more declaration declares beside these names, or `None` where its name stands there already.
+    /// Before the first declaration.
+    fn new(alloc: Global) -> Result<Declared, AllocError>
+        ensures { IfOk result (λ d. d ≡ nothing_declared) }
+    {
+        Ok(Declared {
+            names: Table::new(alloc)?,
+            registers: Table::new(alloc)?,
+            types: Items::new(alloc),
+        })
+    }
+
+    /// What one more declaration declares beside these names, or `None` where its name stands there
+    // already.
     fn with(self, decl: &DeclForm) -> Result<Option<Declared>, AllocError>
         requires names { length self.names < 2 ^ 32 }
         requires registers { length self.registers < 2 ^ 32 }
@@ -114,17 +119,14 @@ impl Declared {
     }
 }
 
-/// What declarations declare, or `None` where a name is declared twice.
-pub fn declare(alloc: Global, decls: &[Decl]) -> Result<Option<Declared>, AllocError>
-    requires { length decls.now ≤ 4096 }
-    ensures { IfOk result (λ found. found ≡ when (is_nil (taken_faults [] (names_from 0 decls.now))) (declared_by decls.now)) }
+/// Adds a name to a table, or gives `None` where it stands there already.
+fn with_name(mut table: Table, name: &Text) -> Result<Option<Table>, AllocError>
+    requires { length table < 2 ^ 32 }
+    ensures { IfOk result (λ found. found ≡ name_added table name.now) }
 {
-    let mut declared = Declared::new(alloc)?;
-    for decl in decls {
-        match declared.with(decl.form())? {
-            Some(more) => declared = more,
-            None => return Ok(None),
-        }
+    match table.add(name.as_str()) {
+        Ok(_) => Ok(Some(table)),
+        Err(NameError::Twice(_)) => Ok(None),
+        Err(NameError::Memory) => Err(AllocError),
     }
-    Ok(Some(declared))
 }

@@ -1,16 +1,59 @@
-// The forms that the interpreter has.
+//! The forms that the interpreter has.
 
 ghost use Rattle.std.specs.Prelude.{◌≡◌};
 ghost use Rattle.kat_syntax.specs.FirstForm.{is_first_op, is_first_expr, is_first_stm, is_first_decl, are_first_decls};
 
 use kat_syntax::{Decl, DeclForm, Expr, Op, RegisterKind, Stm, TypeName};
 
-fn is_first_op(op: Op) -> bool
-    ensures { result ≡ is_first_op op }
+/// Whether each declaration is of a form that the interpreter has.
+pub fn are_first_decls(decls: &[Decl]) -> bool
+    ensures { result ≡ are_first_decls decls.now }
 {
-    matches!(op, Op::Eq | Op::Ult | Op::Add)
+    for decl in decls {
+        if !is_first_decl(decl.form()) {
+            return false;
+        }
+    }
+    true
 }
 
+/// Whether a declaration is.
+fn is_first_decl(decl: &DeclForm) -> bool
+    ensures { result ≡ is_first_decl decl.now }
+{
+    match decl {
+        DeclForm::Register { ty, kind, .. } => {
+            matches!(ty, TypeName::Bits(_)) && *kind == RegisterKind::Plain
+        }
+        DeclForm::Fun {
+            params,
+            result,
+            body,
+            ..
+        } => params.is_empty() && matches!(result, TypeName::Unit) && is_first_stm(body),
+        DeclForm::Step(_) => true,
+        _ => false,
+    }
+}
+
+/// Whether a statement is.
+fn is_first_stm(stm: &Stm) -> bool
+    ensures { result ≡ is_first_stm stm.now }
+{
+    match stm {
+        Stm::Ret(value) | Stm::Write { value, .. } => is_first_expr(value),
+        Stm::Let { first, then, .. } => is_first_stm(first.get()) && is_first_stm(then.get()),
+        Stm::If {
+            test,
+            then,
+            otherwise,
+        } => is_first_expr(test) && is_first_stm(then.get()) && is_first_stm(otherwise.get()),
+        Stm::Read(_) | Stm::Fail => true,
+        _ => false,
+    }
+}
+
+/// Whether an expression is.
 fn is_first_expr(expr: &Expr) -> bool
     ensures { result ≡ is_first_expr expr.now }
 {
@@ -31,48 +74,9 @@ fn is_first_expr(expr: &Expr) -> bool
     }
 }
 
-fn is_first_stm(stm: &Stm) -> bool
-    ensures { result ≡ is_first_stm stm.now }
+/// Whether an operation is of these forms.
+fn is_first_op(op: Op) -> bool
+    ensures { result ≡ is_first_op op }
 {
-    match stm {
-        Stm::Ret(value) | Stm::Write { value, .. } => is_first_expr(value),
-        Stm::Let { first, then, .. } => is_first_stm(first.get()) && is_first_stm(then.get()),
-        Stm::If {
-            test,
-            then,
-            otherwise,
-        } => is_first_expr(test) && is_first_stm(then.get()) && is_first_stm(otherwise.get()),
-        Stm::Read(_) | Stm::Fail => true,
-        _ => false,
-    }
-}
-
-fn is_first_decl(decl: &DeclForm) -> bool
-    ensures { result ≡ is_first_decl decl.now }
-{
-    match decl {
-        DeclForm::Register { ty, kind, .. } => {
-            matches!(ty, TypeName::Bits(_)) && *kind == RegisterKind::Plain
-        }
-        DeclForm::Fun {
-            params,
-            result,
-            body,
-            ..
-        } => params.is_empty() && matches!(result, TypeName::Unit) && is_first_stm(body),
-        DeclForm::Step(_) => true,
-        _ => false,
-    }
-}
-
-/// Whether each declaration is of a form that the interpreter has.
-pub fn are_first_decls(decls: &[Decl]) -> bool
-    ensures { result ≡ are_first_decls decls.now }
-{
-    for decl in decls {
-        if !is_first_decl(decl.form()) {
-            return false;
-        }
-    }
-    true
+    matches!(op, Op::Eq | Op::Ult | Op::Add)
 }

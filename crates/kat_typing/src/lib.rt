@@ -1,13 +1,14 @@
-//! Whether a specification can be run: each declaration is of a form that the interpreter has, and no tree has a fault
-//! of typing. The answer is exact both ways. A fault of any kind is answered alike: the first one ends the search.
+//! Whether a specification can be run: each declaration is of a form that the interpreter has, and
+//! no tree has a fault of typing. The answer is exact both ways. A fault of any kind is answered
+//! alike: the first one ends the search.
 #![tactic(auto)]
 
 mod declared;
 mod expr;
-mod first_form;
 mod forms;
+mod runnable;
 mod scope;
 mod stm;
 mod types;
 
-pub use first_form::is_first_form;
+pub use runnable::is_runnable;

@@ -1,4 +1,4 @@
-// The locals that a statement can use, with their types.
+//! The locals that a statement can use, with their types.
 
 ghost use Rattle.std.specs.Prelude.{◌≡◌, [], ◌∷◌};
 ghost use Rattle.kat_syntax.specs.Typing.{local_type};

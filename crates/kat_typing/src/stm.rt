@@ -1,4 +1,4 @@
-// The types of statements.
+//! The types of statements.
 
 ghost use Rattle.std.specs.Prelude.{◌≡◌};
 ghost use Rattle.std.specs.Result.{result_ok};
@@ -13,12 +13,6 @@ use crate::types::{IllTyped, join, want};
 use kat_syntax::Stm;
 use kat_text::Text;
 use kat_value::Ty;
-
-fn is_in_scope(declared: &Declared, scope: &Scope<'_>, name: &Text) -> bool
-    ensures { result ≡ is_in_scope declared.now (scope_of scope.now) name.now }
-{
-    declared.has_name(name) || local_type(scope, name).is_some()
-}
 
 /// The type of a statement, where no tree in it has a fault.
 pub fn type_of_stm(
@@ -56,4 +50,11 @@ pub fn type_of_stm(
         }
         _ => Ok(None),
     }
+}
+
+/// Whether a name is declared or a local.
+fn is_in_scope(declared: &Declared, scope: &Scope<'_>, name: &Text) -> bool
+    ensures { result ≡ is_in_scope declared.now (scope_of scope.now) name.now }
+{
+    declared.has_name(name) || local_type(scope, name).is_some()
 }

@@ -52,20 +52,23 @@ number_has_type types w n is =
 
 -- and no other
 pub unit_is_unit : UnitIsUnit
-unit_is_unit types v =
-    (λ h. sym (roll-out-Value v) ∙ ap roll-Value (unit_layer types (out-Value v) (has_layer types unit v h)) ∙ rolls-Unit,
-    λ e. subst (HasType types unit) (sym e) (unit_has_type types))
+unit_is_unit types v = (
+  λ h. sym (roll-out-Value v) ∙ ap roll-Value (unit_layer types (out-Value v) (has_layer types unit v h)) ∙ rolls-Unit,
+  λ e. subst (HasType types unit) (sym e) (unit_has_type types),
+)
 
 pub bool_is_truths : BoolIsTruths
-bool_is_truths types v =
-    (λ h.
+bool_is_truths types v = (
+  λ h.
       let found = truth_layer types (out-Value v) (has_layer types bool v h) in
       (found.0, sym (roll-out-Value v) ∙ ap roll-Value found.1 ∙ rolls-Bool found.0),
-    λ found. subst (HasType types bool) (sym found.1) (truth_has_type types found.0))
+  λ found. subst (HasType types bool) (sym found.1) (truth_has_type types found.0),
+)
 
 pub bits_are_numbers : BitsAreNumbers
-bits_are_numbers types w v =
-    (λ h.
+bits_are_numbers types w v = (
+  λ h.
       let found = number_layer types w (out-Value v) (has_layer types (bits w) v h) in
       (found.0, sym (roll-out-Value v) ∙ ap roll-Value found.1 ∙ rolls-Bits w found.0, found.2),
-    λ found. subst (HasType types (bits w)) (sym found.1) (number_has_type types w found.0 found.2))
+  λ found. subst (HasType types (bits w)) (sym found.1) (number_has_type types w found.0 found.2),
+)

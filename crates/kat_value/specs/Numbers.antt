@@ -29,8 +29,8 @@ truth_of_op Slt w a b = int_lt (signed w a) (signed w b)
 truth_of_op Sle w a b = int_le (signed w a) (signed w b)
 truth_of_op _ w a b = false
 
--- the number that an operation on bits gives, 0 where it is no such operation; w is the width of the arguments, for
--- `Cat` of the second
+-- the number that an operation on bits gives, 0 where it is no such operation; w is the width of
+-- the arguments, for `Cat` of the second
 abbrev pub number_of_op : Op → ℕ → ℕ → ℕ → ℕ
 number_of_op Eq w a b = number_of_truth (truth_of_op Eq w a b)
 number_of_op Ult w a b = number_of_truth (truth_of_op Ult w a b)
@@ -63,7 +63,8 @@ pub record AreNumbers (w a b : ℕ) : Type 0 where
   pub first : IsNumber w a
   pub second : IsNumber w b
 
--- the operation is one on bits, and takes these arguments without a fault; one with one argument does not look at b
+-- the operation is one on bits, and takes these arguments without a fault; one with one argument
+-- does not look at b
 abbrev pub CanApply : Op → ℕ → ℕ → ℕ → Type 0
 CanApply Not w a b = ⊥
 CanApply And w a b = ⊥
@@ -77,7 +78,8 @@ CanApply (Zext v) w a b = IsNumber w a × (w ≤ v) × (v ≤ widest)
 CanApply (Sext v) w a b = IsNumber w a × (w ≤ v) × (v ≤ widest)
 CanApply _ w a b = AreNumbers w a b
 
--- the width that an operation on numbers of w bits gives; 1 for a truth, and for `Cat`, whose first width is not told, the greatest
+-- the width that an operation on numbers of w bits gives; 1 for a truth, and for `Cat`, whose first
+-- width is not told, the greatest
 abbrev pub width_of_op : Op → ℕ → ℕ
 width_of_op Eq w = 1
 width_of_op Ult w = 1

@@ -1,4 +1,5 @@
--- The types of operations: what each takes, and what it gives. A type that nothing fixes is none, and may be any.
+-- The types of operations: what each takes, and what it gives. A type that nothing fixes is none,
+-- and may be any.
 use Rattle.std.specs.Prelude.{ℕ, Bool, true, false, ◌+◌, ◌-◌, ◌==◌, ◌&&◌, ◌||◌, nat_le, nat_lt, if◌then◌else◌, List, [], ◌∷◌, length, Option, Some, None, option_and_then, slice_get}
 use Rattle.std.specs.Option.{option_map, option_or}
 use Rattle.kat_value.specs.declared.op.Op.{Op}
@@ -67,15 +68,18 @@ takes (Slice hi lo) at fixed type = may_be_bits type
 takes Cat at fixed type = may_be_bits type
 takes (Extension width) at fixed type = may_be_bits type
 takes Choice at fixed type =
-    if at == 0 then agree (Some ty.Bool) type else (may_be_bits type || agree (Some ty.Bool) type) && agree fixed type
+    if at == 0 then agree (Some ty.Bool) type
+    else (may_be_bits type || agree (Some ty.Bool) type) && agree fixed type
 takes (Get of field) at fixed type = agree (Some (ty.Rec of)) type
 
--- whether the argument at a position is the truth that chooses, whose type says nothing of the others
+-- whether the argument at a position is the truth that chooses, whose type says nothing of the
+-- others
 abbrev pub is_test : Signature → ℕ → Bool
 is_test Choice at = at == 0
 is_test _ at = false
 
--- the type that is fixed behind the argument at a position: by the first that is known and may stand there
+-- the type that is fixed behind the argument at a position: by the first that is known and may
+-- stand there
 abbrev pub fixed_behind : Signature → ℕ → Option Ty → Option Ty → Option Ty
 fixed_behind signature at fixed type =
     if is_test signature at then fixed
@@ -99,9 +103,11 @@ joined_bits _ = None
 -- the type of a field of a record
 abbrev pub type_of_field : List TypeDecl → ℕ → ℕ → Option Ty
 type_of_field types of field =
-    option_map (λ (found : Field). found.ty) (option_and_then (λ fields. slice_get fields field) (fields_at types of))
+    option_map (λ (found : Field). found.ty)
+    (option_and_then (λ fields. slice_get fields field) (fields_at types of))
 
--- the type that an operation gives on arguments of these types, whatever faults there are; none where nothing fixes it
+-- the type that an operation gives on arguments of these types, whatever faults there are; none
+-- where nothing fixes it
 abbrev pub type_given : List TypeDecl → Signature → List (Option Ty) → Option Ty
 type_given types Truths args = Some ty.Bool
 type_given types Equality args = Some ty.Bool
@@ -118,8 +124,8 @@ abbrev pub has_place : ℕ → List (Option Ty) → Bool
 has_place place (Some (ty.Bits w) ∷ []) = nat_lt place w
 has_place place _ = true
 
--- whether the widths go together, as far as they are known: a slice stands within its argument, two parts are no wider
--- than bits can be, and an extension is no shorter than its argument
+-- whether the widths go together, as far as they are known: a slice stands within its argument, two
+-- parts are no wider than bits can be, and an extension is no shorter than its argument
 abbrev pub widths_fit : Signature → List (Option Ty) → Bool
 widths_fit (Slice hi lo) args = nat_le lo hi && has_place hi args
 widths_fit Cat (Some (ty.Bits v) ∷ Some (ty.Bits w) ∷ []) = nat_le (v + w) widest
@@ -130,13 +136,16 @@ widths_fit _ args = true
 abbrev pub all_taken : Signature → ℕ → Option Ty → List (Option Ty) → Bool
 all_taken signature at fixed [] = true
 all_taken signature at fixed (type ∷ types) =
-    takes signature at fixed type && all_taken signature (at + 1) (fixed_behind signature at fixed type) types
+    takes signature at fixed type
+    && all_taken signature (at + 1) (fixed_behind signature at fixed type) types
 
 -- whether an operation takes arguments of these types without a fault
 abbrev pub accepts : Op → List (Option Ty) → Bool
 accepts op args =
-    (length args == arity_of op) && (all_taken (signature_of op) 0 None args && widths_fit (signature_of op) args)
+    (length args == arity_of op)
+    && (all_taken (signature_of op) 0 None args && widths_fit (signature_of op) args)
 
--- the type of an operation on arguments of these types; none where it does not take them, or nothing fixes it
+-- the type of an operation on arguments of these types; none where it does not take them, or
+-- nothing fixes it
 abbrev pub type_of_op : List TypeDecl → Op → List (Option Ty) → Option Ty
 type_of_op types op args = if accepts op args then type_given types (signature_of op) args else None

@@ -14,7 +14,8 @@ UnitIsUnit = (types : List TypeDecl) (v : Value) → HasType types ty.Unit v ↔
 -- of type bool are the truths alone
 abbrev pub BoolIsTruths : Type 0
 BoolIsTruths =
-    (types : List TypeDecl) (v : Value) → HasType types ty.Bool v ↔ ((b : Bool) × (v ≡ value.Bool b))
+    (types : List TypeDecl) (v : Value) →
+    HasType types ty.Bool v ↔ ((b : Bool) × (v ≡ value.Bool b))
 
 -- of bits are the numbers of that width alone, and none where it is no width
 abbrev pub BitsAreNumbers : Type 0

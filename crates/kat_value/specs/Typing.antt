@@ -65,7 +65,8 @@ layer_has_type types UnitValue unit = true
 layer_has_type types (Truth b) bool = true
 layer_has_type types (Bits w n) (bits v) = (w == v) && is_number w n
 layer_has_type types (Member t index) (enum u) = (t == u) && nat_lt index (member_count types t)
-layer_has_type types (Made t ctor test) (union u) = (t == u) && passes_ctor test (ctor_at types t ctor)
+layer_has_type types (Made t ctor test) (union u) =
+    (t == u) && passes_ctor test (ctor_at types t ctor)
 layer_has_type types (Rec t tests) (rec u) = (t == u) && pass_record tests (fields_at types t)
 layer_has_type types _ _ = false
 

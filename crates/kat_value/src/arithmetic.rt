@@ -7,16 +7,17 @@ ghost use Rattle.kat_value.specs.Widths.{IsWidth, widest};
 use crate::op::Op;
 use crate::width::WIDEST;
 
-/// The number that an operation from `Eq` to `Sext` gives for the numbers `a` and `b` of `width` bits, 1 to 64.
+/// The number that an operation from `Eq` to `Sext` gives for the numbers `a` and `b` of `width`
+/// bits, 1 to 64.
 ///
-/// A comparison gives 1 or 0. For `Cat` the width is that of `b`, and both fit 64 bits together. An operation with
-/// one argument does not look at `b`. A slice is within the width, and an extension is no shorter. It takes no memory.
+/// A comparison gives 1 or 0. For `Cat` the width is that of `b`, and both fit 64 bits together. An
+/// operation with one argument does not look at `b`. A slice is within the width, and an extension
+/// is no shorter. It takes no memory.
 pub fn apply(op: Op, width: u32, a: u64, b: u64) -> u64
     requires { CanApply op width a b }
     ensures value { result ≡ number_of_op op width a b }
     ensures within { result < 2 ^ width_of_op op width }
-    ensures joined { op ≡ Op.Cat → (v : ℕ) → a < 2 ^ v →
-        result < 2 ^ (v + width) }
+    ensures joined { op ≡ Op.Cat → (v : ℕ) → a < 2 ^ v → result < 2 ^ (v + width) }
 {
     match op {
         Op::Eq => u64::from(a == b),

@@ -21,10 +21,12 @@ pub fn types_of_values()
 
 /// A word tells its operation, and the operation its word.
 pub fn words_of_operations()
-    ensures found { (op : Op) → IsTrue (is_written op) → op_of_word (word_of_op op) ≡ Some (bare op) }
+    ensures found { (op : Op) →
+        IsTrue (is_written op) → op_of_word (word_of_op op) ≡ Some (bare op) }
     // What a word begins has that word, is written with it, and has zeros for numbers.
     ensures word { (word : List ℕ) (op : Op) → op_of_word word ≡ Some op → word ≡ word_of_op op }
-    ensures written { (word : List ℕ) (op : Op) → op_of_word word ≡ Some op → IsTrue (is_written op) }
+    ensures written { (word : List ℕ) (op : Op) →
+        op_of_word word ≡ Some op → IsTrue (is_written op) }
     ensures zeros { (word : List ℕ) (op : Op) → op_of_word word ≡ Some op → bare op ≡ op }
 
     // An operation with zeros for numbers, and its numbers, are the operation.

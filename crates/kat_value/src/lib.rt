@@ -1,7 +1,7 @@
 //! The types and values of a machine, and the operations on them as arithmetic on whole numbers. A
-//! declared type is known by its position in the table of types; a value is plain data, and no value
-//! holds a reference. What is said of an operation stands here once: its word, its numbers, how many
-//! arguments it takes, their types, and the type that it gives.
+//! declared type is known by its position in the table of types; a value is plain data, and none
+//! holds a reference. What is said of an operation stands here once: its word, its numbers, how
+//! many arguments it takes, their types, and the type that it gives.
 #![tactic(auto)]
 
 mod arithmetic;

@@ -1,6 +1,7 @@
 //! The operations of expressions and terms.
 
-/// An operation, in the order of the language's list. Those from `Ult` to `Sar` take bits of equal widths.
+/// An operation, in the order of the language's list. Those from `Ult` to `Sar` take bits of equal
+/// widths.
 #[derive(Clone, Copy, Debug, PartialEq, Eq, Drop)]
 pub enum Op {
     Not,

@@ -9,7 +9,8 @@ use crate::types::{Ty, TypeDecl, Types};
 use crate::width::{WIDEST, is_width};
 use crate::words::arity_of;
 
-/// The type of an operation on arguments of these types; none where it does not take them, or nothing fixes it.
+/// The type of an operation on arguments of these types; none where it does not take them, or
+/// nothing fixes it.
 pub fn type_of_op(types: &Types, op: Op, args: &[Option<Ty>]) -> Option<Ty>
     ensures { result ≡ type_of_op types.now op args.now }
 {
@@ -67,7 +68,8 @@ fn takes_choice(at: usize, fixed: Option<Ty>, ty: Option<Ty>) -> bool
     }
 }
 
-/// The type that is fixed behind the argument at a position: by the first that is known and may stand there.
+/// The type that is fixed behind the argument at a position: by the first that is known and may
+/// stand there.
 pub fn fixed_behind(
     signature: Signature,
     at: usize,
@@ -93,7 +95,8 @@ fn is_test(signature: Signature, at: usize) -> bool
     }
 }
 
-/// The type that an operation gives on arguments of these types, whatever faults there are; none where nothing fixes it.
+/// The type that an operation gives on arguments of these types, whatever faults there are; none
+/// where nothing fixes it.
 pub fn type_given(types: &Types, signature: Signature, args: &[Option<Ty>]) -> Option<Ty>
     ensures { result ≡ type_given types.now signature args.now }
 {
@@ -160,8 +163,8 @@ fn type_of_field(types: &Types, of: u32, field: u32) -> Option<Ty>
     }
 }
 
-/// Whether the widths go together, as far as they are known: a slice stands within its argument, two parts are no wider
-/// than bits can be, and an extension is no shorter than its argument.
+/// Whether the widths go together, as far as they are known: a slice stands within its argument,
+/// two parts are no wider than bits can be, and an extension is no shorter than its argument.
 pub fn widths_fit(signature: Signature, args: &[Option<Ty>]) -> bool
     ensures { result ≡ widths_fit signature args.now }
 {

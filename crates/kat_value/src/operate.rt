@@ -12,8 +12,8 @@ use crate::op::Op;
 use crate::value::Value;
 use crate::width::is_number;
 
-/// What `Eq`, `Ult` or `Add` gives on two values; none where they are not of types that it takes, and of every other
-/// operation, which has no meaning on values yet. It takes no memory.
+/// What `Eq`, `Ult` or `Add` gives on two values; none where they are not of types that it takes,
+/// and of every other operation, which has no meaning on values yet. It takes no memory.
 pub fn operate_on_two(op: Op, a: &Value, b: &Value) -> Option<Value>
     ensures { result ≡ value_of_op op (a.now ∷ b.now ∷ []) }
 {
@@ -45,7 +45,8 @@ struct Numbers {
 /// The numbers of two values, where they are bits of one width.
 fn numbers_of(a: &Value, b: &Value) -> Option<Numbers>
     ensures numbers { IfSome result (λ n. AreNumbers n.width n.first n.second) }
-    ensures operands { (f : ℕ → ℕ → ℕ → AnyValue) → of_numbers f a.now b.now ≡ option_map (λ n. f n.width n.first n.second) result }
+    ensures operands { (f : ℕ → ℕ → ℕ → AnyValue) →
+        of_numbers f a.now b.now ≡ option_map (λ n. f n.width n.first n.second) result }
 {
     match (a, b) {
         (

@@ -86,7 +86,32 @@ fn parts(rt: HostRuntime) {
     }
 }
 
-// An enum with two members, a union with a constructor of it, and a record of the union and 8 bits.
+#[test]
+fn types_of_operations(rt: HostRuntime) -> Result<(), Fail> {
+    let types = declared(rt.alloc())?;
+    let (byte, word) = (Some(Ty::Bits(8)), Some(Ty::Bits(32)));
+    let truth = Some(Ty::Bool);
+    let cases: [(Op, &[Option<Ty>], Option<Ty>); 12] = [
+        (Op::Not, &[truth], truth),
+        (Op::Eq, &[byte, word], None),
+        (Op::Ult, &[byte, byte], truth),
+        (Op::Add, &[byte, byte], byte),
+        (Op::Add, &[byte, word], None),
+        (Op::Slice { hi: 31, lo: 24 }, &[word], byte),
+        (Op::Slice { hi: 32, lo: 25 }, &[word], None),
+        (Op::Cat, &[word, word], Some(Ty::Bits(64))),
+        (Op::Cat, &[word, Some(Ty::Bits(33))], None),
+        (Op::Zext { width: 8 }, &[word], None),
+        (Op::Ite, &[truth, byte, byte], byte),
+        (Op::Get { of: 2, field: 1 }, &[Some(Ty::Rec(2))], byte),
+    ];
+    for (at, (op, args, want)) in cases.into_iter().enumerate() {
+        assert_eq!(rt; type_of_op(&types, op, args), want, "case {at}");
+    }
+    Ok(())
+}
+
+/// An enum with two members, a union with a constructor of it, and a record of the union and 8 bits.
 fn declared(alloc: Global) -> Result<Types, AllocError> {
     let mut members = Items::new(alloc);
     members.push(Text::new(alloc, "Red")?)?;
@@ -121,6 +146,7 @@ fn declared(alloc: Global) -> Result<Types, AllocError> {
     Ok(types)
 }
 
+/// A record of those.
 fn thing(alloc: Global, index: u32, number: u64) -> Result<Value, AllocError> {
     let mut fields = Items::new(alloc);
     fields.push(Value::Made {
