@@ -1,7 +1,13 @@
 -- Assertions: what fits is one, form by form, and the tree of one fits.
-use Rattle.std.proofs.Common.{◌≡◌, ℕ, Bool, ◌+◌, List, [], ◌∷◌, ◌++◌, ◌&&◌, length, map, true, false, Some, refl, ap, sym, subst, ◌∙◌, arith}
+use Rattle.std.proofs.Common.{◌≡◌, ℕ, Bool, ◌+◌, ◌-◌, List, [], ◌∷◌, ◌++◌, ◌&&◌, length, map, true, false, Option, Some, None, refl, ap, sym, subst, ◌∙◌, arith}
 use Rattle.std.specs.Prelude.{codes, replicate}
 use Rattle.std.specs.List.{AllByRecursion}
+use Rattle.kat_tree.specs.declared.tree.Token.{Token}
+use Rattle.kat_tree.specs.declared.tree.Tree.TheVariants.{rolls-Atom, rolls-List}
+use Rattle.kat_tree.specs.declared.tree.Tree.TheOpen.{Tree-F}
+use Rattle.kat_tree.specs.declared.tree.Tree.TheViews.{roll-Tree}
+use Rattle.kat_tree.specs.declared.tree.Tree.TheFolds.{map-Tree, ind-Tree}
+use Rattle.std.specs.Option.{option_and_then}
 use Rattle.kat_tree.specs.declared.tree.Token.TheVariants as token
 use Rattle.kat_tree.specs.declared.tree.Tree.{Tree}
 use Rattle.kat_tree.specs.declared.tree.Tree.TheVariants as variant
@@ -19,14 +25,14 @@ use Rattle.kat_ast.specs.Parts.{word, form, is_name, every}
 use Rattle.kat_ast.specs.Types.{tree_of_type, tree_of_param, is_formed_type, is_formed_param}
 use Rattle.kat_ast.specs.Expressions.{tree_of_expr, is_formed_expr, are_formed_exprs}
 use Rattle.kat_ast.specs.Assertions.{assertion_tree, tree_of_assertion, assertion_formed, is_formed_assertion}
-use Rattle.kat_shapes.specs.Forms.{exactly, many, form_of, newest}
+use Rattle.kat_shapes.specs.Forms.{Form, exactly, many, form_of, form_in, newest, row_of, assertions}
 use Rattle.kat_shapes.specs.Fits.{fits}
 use Rattle.kat_forms.specs.Parts.{FitsSort, HasParts}
-use Rattle.kat_forms.specs.Forms.{IsAssertion}
-use Rattle.kat_forms.proofs.Lists.{both}
-use Rattle.kat_forms.proofs.Fitting.{form_fits, place_fits}
-use Rattle.kat_forms.proofs.SmallForms.{apart, name_fits, named_many, only_many, type_fits}
-use Rattle.kat_forms.proofs.ExpressionForms.{expr_fits, exprs_fit}
+use Rattle.kat_forms.specs.Forms.{IsAssertion, AreAssertions}
+use Rattle.kat_forms.proofs.Lists.{both, same1, same2, same3, same_first}
+use Rattle.kat_forms.proofs.Fitting.{form_fits, place_fits, no_form, no_atom, headed, exact_parts, many_parts, rest_fits}
+use Rattle.kat_forms.proofs.SmallForms.{apart, name_of, param_of, name_fits, named_many, only_many, type_fits}
+use Rattle.kat_forms.proofs.ExpressionForms.{found_holds, expr_of, exprs_of, expr_fits, exprs_fit}
 
 -- each form from its parts
 pub Pure-is : (parts : List Tree) (e : Expr) → tree_of_expr e ∷ [] ≡ parts → is_formed_expr e ≡ true → IsAssertion (form (codes "pure") parts) (made.Pure e)
@@ -110,3 +116,107 @@ assertion_fits = ind-Assertion AssertionFits (λ x y is f.
     ∙ subst (λ z. assertion_formed (map-Assertion Assertion Bool is_formed_assertion z) ≡ true → fits sort.Assertion (assertion_tree (map-Assertion Assertion Tree tree_of_assertion z)) ≡ true) is (assertion_layer y)
     (sym (fold-roll-Assertion Bool assertion_formed x) ∙ f))
 
+-- What fits is an assertion.
+abbrev AssertionOf : Tree → Type 0
+AssertionOf t = FitsSort sort.Assertion t → (a : Assertion) × IsAssertion t a
+
+abbrev Known : Type 0
+Known = (t : Tree) × AssertionOf t
+
+abbrev trees : List Known → List Tree
+trees ps = map (λ p. p.0) ps
+
+assertions_from : (ps : List Known) → AllByRecursion (FitsSort sort.Assertion) (trees ps) → (made : List Assertion) × AreAssertions (trees ps) made
+assertions_from [] all = ([], (refl, refl))
+assertions_from (p ∷ ps) all =
+    let a = p.1 all.0 in let more = assertions_from ps all.1 in
+    (a.0 ∷ more.0, (same_first a.1.0 more.1.0, both (is_formed_assertion a.0) (every (map is_formed_assertion more.0)) a.1.1 more.1.1))
+
+pure-from : (ps : List Known) → HasParts (sort.Expression ∷ []) (trees ps) → (x : Assertion) × IsAssertion (form (codes "pure") (trees ps)) x
+pure-from (p0 ∷ []) h =
+    let v0 = expr_of p0.0 h.fit.0 in
+    (made.Pure v0.0, Pure-is _ v0.0 (same1 v0.1.0) v0.1.1)
+pure-from _ h = absurd (omega (arith, h.count))
+
+register-from : (ps : List Known) → HasParts (sort.Name ∷ sort.Expression ∷ []) (trees ps) → (x : Assertion) × IsAssertion (form (codes "reg") (trees ps)) x
+register-from (p0 ∷ p1 ∷ []) h =
+    let v0 = name_of p0.0 h.fit.0 in
+    let v1 = expr_of p1.0 h.fit.1.0 in
+    (made.Register v0.0 v1.0, Register-is _ v0.0 v1.0 (same2 v0.1.0 v1.1.0) v0.1.1 v1.1.1)
+register-from _ h = absurd (omega (arith, h.count))
+
+cell-from : (ps : List Known) → HasParts (sort.Expression ∷ sort.Expression ∷ []) (trees ps) → (x : Assertion) × IsAssertion (form (codes "cell") (trees ps)) x
+cell-from (p0 ∷ p1 ∷ []) h =
+    let v0 = expr_of p0.0 h.fit.0 in
+    let v1 = expr_of p1.0 h.fit.1.0 in
+    (made.Cell v0.0 v1.0, Cell-is _ v0.0 v1.0 (same2 v0.1.0 v1.1.0) v0.1.1 v1.1.1)
+cell-from _ h = absurd (omega (arith, h.count))
+
+if-from : (ps : List Known) → HasParts (sort.Expression ∷ sort.Assertion ∷ sort.Assertion ∷ []) (trees ps) → (x : Assertion) × IsAssertion (form (codes "if") (trees ps)) x
+if-from (p0 ∷ p1 ∷ p2 ∷ []) h =
+    let v0 = expr_of p0.0 h.fit.0 in
+    let v1 = p1.1 h.fit.1.0 in
+    let v2 = p2.1 h.fit.1.1.0 in
+    (made.If v0.0 v1.0 v2.0, If-is _ v0.0 v1.0 v2.0 (same3 v0.1.0 v1.1.0 v2.1.0) v0.1.1 v1.1.1 v2.1.1)
+if-from _ h = absurd (omega (arith, h.count))
+
+predicate-from : (ps : List Known) → HasParts (sort.Name ∷ replicate (length (trees ps) - 1) sort.Expression) (trees ps) → (x : Assertion) × IsAssertion (form (codes "pred") (trees ps)) x
+predicate-from [] h = absurd h.fit
+predicate-from (p ∷ ps) h =
+    let k = name_of p.0 h.fit.0 in
+    let es = exprs_of (trees ps) (rest_fits (sort.Name ∷ []) sort.Expression (length (trees (p ∷ ps)) - 1) (trees (p ∷ ps)) h) in
+    (made.Predicate k.0 es.0, Predicate-is _ k.0 es.0 (same_first k.1.0 es.1.0) k.1.1 es.1.1)
+
+region-from : (ps : List Known) → HasParts (sort.Name ∷ replicate (length (trees ps) - 1) sort.Expression) (trees ps) → (x : Assertion) × IsAssertion (form (codes "region") (trees ps)) x
+region-from [] h = absurd h.fit
+region-from (p ∷ ps) h =
+    let k = name_of p.0 h.fit.0 in
+    let es = exprs_of (trees ps) (rest_fits (sort.Name ∷ []) sort.Expression (length (trees (p ∷ ps)) - 1) (trees (p ∷ ps)) h) in
+    (made.Region k.0 es.0, Region-is _ k.0 es.0 (same_first k.1.0 es.1.0) k.1.1 es.1.1)
+
+star-from : (ps : List Known) → HasParts (replicate (length (trees ps) - 0) sort.Assertion) (trees ps) → (x : Assertion) × IsAssertion (form (codes "star") (trees ps)) x
+star-from ps h =
+    let all = assertions_from ps (rest_fits [] sort.Assertion (length (trees ps) - 0) (trees ps) h) in
+    (made.Star all.0, Star-is _ all.0 all.1.0 all.1.1)
+
+exists-from : (ps : List Known) → HasParts (sort.Param ∷ sort.Assertion ∷ []) (trees ps) → (x : Assertion) × IsAssertion (form (codes "exists") (trees ps)) x
+exists-from (p0 ∷ p1 ∷ []) h =
+    let q = param_of p0.0 h.fit.0 in let a = p1.1 h.fit.1.0 in
+    (made.Exists q.0.name q.0.ty a.0, Exists-is _ q.0.name q.0.ty a.0 (same2 q.1.0 a.1.0) q.1.1 a.1.1)
+exists-from _ h = absurd (omega (arith, h.count))
+
+-- the form of a word
+abbrev ListOf : List ℕ → Form → Type 0
+ListOf w f = (ps : List Known) → FitsSort sort.Assertion (form w (trees ps)) → (x : Assertion) × IsAssertion (form w (trees ps)) x
+
+list_rows : AllByRecursion (λ (row : List ℕ × Form). ListOf row.0 row.1) assertions
+list_rows = (
+    λ ps fit. pure-from ps (exact_parts sort.Assertion (codes "pure") (sort.Expression ∷ []) (trees ps) refl fit),
+    (λ ps fit. register-from ps (exact_parts sort.Assertion (codes "reg") (sort.Name ∷ sort.Expression ∷ []) (trees ps) refl fit),
+    (λ ps fit. cell-from ps (exact_parts sort.Assertion (codes "cell") (sort.Expression ∷ sort.Expression ∷ []) (trees ps) refl fit),
+    (λ ps fit. star-from ps (many_parts sort.Assertion (codes "star") ([]) sort.Assertion (trees ps) refl fit),
+    (λ ps fit. if-from ps (exact_parts sort.Assertion (codes "if") (sort.Expression ∷ sort.Assertion ∷ sort.Assertion ∷ []) (trees ps) refl fit),
+    (λ ps fit. exists-from ps (exact_parts sort.Assertion (codes "exists") (sort.Param ∷ sort.Assertion ∷ []) (trees ps) refl fit),
+    (λ ps fit. predicate-from ps (many_parts sort.Assertion (codes "pred") (sort.Name ∷ []) sort.Expression (trees ps) refl fit),
+    (λ ps fit. region-from ps (many_parts sort.Assertion (codes "region") (sort.Name ∷ []) sort.Expression (trees ps) refl fit), tt))))))))
+
+list_by : (w : List ℕ) (ps : List Known) (found : Option Form) → row_of assertions w ≡ found → FitsSort sort.Assertion (form w (trees ps)) →
+    (x : Assertion) × IsAssertion (form w (trees ps)) x
+list_by w ps None none fit = absurd (no_form sort.Assertion w (trees ps) (ap (option_and_then (form_in newest)) none) fit)
+list_by w ps (Some f) found fit = found_holds ListOf assertions w f list_rows found ps fit
+
+list_of : (ps : List Known) → FitsSort sort.Assertion (variant.List (trees ps)) → (x : Assertion) × IsAssertion (variant.List (trees ps)) x
+list_of [] fit = absurd (let h = headed sort.Assertion [] refl fit in omega (arith, ap length h.is))
+list_of (p ∷ ps) fit =
+    let h = headed sort.Assertion (trees (p ∷ ps)) refl fit in
+    let first : p.0 ≡ word h.head = let e = h.is in cc in
+    let is : variant.List (trees (p ∷ ps)) ≡ form h.head (trees ps) = ap (λ t. variant.List (t ∷ trees ps)) first in
+    subst (λ t. (x : Assertion) × IsAssertion t x) (sym is)
+    (list_by h.head ps (row_of assertions h.head) refl (subst (FitsSort sort.Assertion) is fit))
+
+assertion_layer_of : (y : Tree-F Known) → AssertionOf (roll-Tree (map-Tree Known Tree (λ p. p.0) y))
+assertion_layer_of (Tree-F.Atom t) = subst AssertionOf (sym (rolls-Atom t)) (λ fit. absurd (no_atom sort.Assertion t (record { numbers = λ n. refl; names = λ x. refl }) fit))
+assertion_layer_of (Tree-F.List ps) = subst AssertionOf (sym (rolls-List (trees ps))) (list_of ps)
+
+pub assertion_of : (t : Tree) → FitsSort sort.Assertion t → (a : Assertion) × IsAssertion t a
+assertion_of = ind-Tree AssertionOf (λ x y is. subst (λ z. AssertionOf (roll-Tree z)) is (assertion_layer_of y))

@@ -1,11 +1,16 @@
 -- Expressions: what fits is one, form by form, and the tree of one fits.
-use Rattle.std.proofs.Common.{◌≡◌, ℕ, Bool, ◌+◌, ◌==◌, List, [], ◌∷◌, ◌++◌, ◌&&◌, ◌||◌, not, length, take, drop, map, true, false, if◌then◌else◌, Option, Some, None, refl, ap, sym, subst, ◌∙◌, arith, length-append}
+use Rattle.std.proofs.Common.{◌≡◌, ℕ, Bool, ◌+◌, ◌-◌, ◌==◌, List, [], ◌∷◌, ◌++◌, ◌&&◌, ◌||◌, not, length, take, drop, map, true, false, if◌then◌else◌, Option, Some, None, refl, ap, sym, subst, ◌∙◌, arith, length-append}
 use Rattle.std.specs.Str.{bytes_eq}
 use Rattle.std.proofs.lemmas.Bool.{eqb-true, eq-eqb}
 use Rattle.std.proofs.lemmas.List.{length-map, length-replicate}
 use Rattle.std.proofs.lemmas.Slice.Eq.{bytes_eq-Decides}
 use Rattle.std.specs.Prelude.{codes, replicate}
 use Rattle.std.specs.List.{AllByRecursion}
+use Rattle.kat_tree.specs.declared.tree.Token.{Token}
+use Rattle.kat_tree.specs.declared.tree.Tree.TheVariants.{rolls-Atom, rolls-List}
+use Rattle.kat_tree.specs.declared.tree.Tree.TheOpen.{Tree-F}
+use Rattle.kat_tree.specs.declared.tree.Tree.TheViews.{roll-Tree}
+use Rattle.kat_tree.specs.declared.tree.Tree.TheFolds.{map-Tree, ind-Tree}
 use Rattle.kat_tree.specs.declared.tree.Token.TheVariants as token
 use Rattle.kat_tree.specs.declared.tree.Tree.{Tree}
 use Rattle.kat_tree.specs.declared.tree.Tree.TheVariants as variant
@@ -19,17 +24,21 @@ use Rattle.kat_ast.specs.declared.expr.Expr.TheVariants.{rolls-Name, rolls-Unit,
 use Rattle.kat_ast.specs.declared.expr.Expr.TheOpen as layer
 use Rattle.kat_ast.specs.declared.expr.Expr.TheOpen as expr
 use Rattle.kat_ast.specs.declared.expr.Expr.TheFolds.{map-Expr, fold-roll-Expr, ind-Expr}
-use Rattle.kat_value.specs.Words.{word_of_op, arity_of, is_written}
-use Rattle.kat_ast.specs.Parts.{word, number, form, is_name, every}
-use Rattle.kat_ast.specs.Expressions.{numbers_before, expr_tree, tree_of_expr, expr_formed, is_formed_expr, are_formed_exprs}
-use Rattle.kat_shapes.specs.Forms.{Rows, exactly, many, form_of, newest, row_of, expressions}
+use Rattle.kat_value.specs.Words.{word_of_op, op_among, op_of_word, written_ops}
+use Rattle.kat_ast.specs.Parts.{word, number, form}
+use Rattle.kat_ast.specs.Expressions.{numbers_before, expr_tree, tree_of_expr}
+use Rattle.std.specs.Prelude.{IsSome}
+use Rattle.std.specs.Option.{option_and_then}
+use Rattle.kat_value.specs.Words.{arity_of, is_written}
+use Rattle.kat_ast.specs.Parts.{is_name, every}
+use Rattle.kat_ast.specs.Expressions.{expr_formed, is_formed_expr, are_formed_exprs}
+use Rattle.kat_shapes.specs.Forms.{Form, Rows, exactly, many, form_of, form_in, newest, row_of, expressions}
 use Rattle.kat_shapes.specs.Fits.{fits}
 use Rattle.kat_forms.specs.Parts.{FitsSort, AllFit, HasParts}
-use Rattle.kat_forms.specs.Operations.{bare_operations}
-use Rattle.kat_forms.specs.Forms.{IsExpr}
-use Rattle.kat_forms.proofs.Lists.{both}
-use Rattle.kat_forms.proofs.Fitting.{token_fits, form_fits, exactly_sorts, all_of_one, exact_parts, many_parts}
-use Rattle.kat_forms.proofs.SmallForms.{apart, name_fits, number_fits, named_many}
+use Rattle.kat_forms.specs.Forms.{IsExpr, AreExprs}
+use Rattle.kat_forms.proofs.Lists.{both, same1, same2, same3, same_first}
+use Rattle.kat_forms.proofs.Fitting.{token_fits, fits_of_token, headed, all_same, rest_fits, form_fits, exactly_sorts, all_of_one, exact_parts, many_parts, no_form}
+use Rattle.kat_forms.proofs.SmallForms.{apart, name_of, number_of, name_fits, number_fits, named_many}
 
 -- names
 pub Name-is : (x : List ℕ) → is_name x ≡ true → IsExpr (word x) (made.Name x)
@@ -145,27 +154,34 @@ pub record IsBare (w : List ℕ) (o : Op) : Type 0 where
   pub written : is_written o ≡ true
   pub formed : form_of newest sort.Expression (Some w) ≡ Some (exactly (sort.Word ∷ replicate (arity_of o) sort.Expression))
 
-pub bare_found : (w : List ℕ) (o : Op) → row_of bare_operations w ≡ Some o → IsBare w o
-bare_found w o found = found_holds IsBare bare_operations w o
-    (record { word_is = refl; alone = refl; written = refl; formed = refl }, (record { word_is = refl; alone = refl; written = refl; formed = refl }, (record { word_is = refl; alone = refl; written = refl; formed = refl }, (record { word_is = refl; alone = refl; written = refl; formed = refl }, (record { word_is = refl; alone = refl; written = refl; formed = refl }, (record { word_is = refl; alone = refl; written = refl; formed = refl }, (record { word_is = refl; alone = refl; written = refl; formed = refl }, (record { word_is = refl; alone = refl; written = refl; formed = refl }, (record { word_is = refl; alone = refl; written = refl; formed = refl }, (record { word_is = refl; alone = refl; written = refl; formed = refl }, (record { word_is = refl; alone = refl; written = refl; formed = refl }, (record { word_is = refl; alone = refl; written = refl; formed = refl }, (record { word_is = refl; alone = refl; written = refl; formed = refl }, (record { word_is = refl; alone = refl; written = refl; formed = refl }, (record { word_is = refl; alone = refl; written = refl; formed = refl }, (record { word_is = refl; alone = refl; written = refl; formed = refl }, (record { word_is = refl; alone = refl; written = refl; formed = refl }, (record { word_is = refl; alone = refl; written = refl; formed = refl }, (record { word_is = refl; alone = refl; written = refl; formed = refl }, (record { word_is = refl; alone = refl; written = refl; formed = refl }, tt)))))))))))))))))))) found
+-- the forms that are no operations with arguments alone come first in the table
+abbrev pub IsNoValue : List ℕ → Type 0
+IsNoValue w = row_of (take 15 expressions) w ≡ None
 
--- a table with the same words has no row either
-abbrev SameWords : {A B : Type 0} → Rows A → Rows B → Type 0
-SameWords [] [] = Unit {0}
-SameWords (a ∷ as_) (b ∷ bs) = (a.0 ≡ b.0) × SameWords as_ bs
-SameWords _ _ = ⊥
+-- operations by their words
+abbrev rows : List Op → Rows Op
+rows ops = map (λ (o : Op). (word_of_op o, o)) ops
 
-none_by : {A B : Type 0} (a : A) (b : B) (o : Option A) (p : Option B) (t : Bool) → (if t then Some a else o) ≡ None → (o ≡ None → p ≡ None) → (if t then Some b else p) ≡ None
-none_by a b o p true e left = absurd (cc)
-none_by a b o p false e left = left e
+among_rows : (ops : List Op) (w : List ℕ) → op_among ops w ≡ row_of (rows ops) w
+among_rows [] w = refl
+among_rows (o ∷ ops) w = ap (λ found. if bytes_eq w (word_of_op o) then Some o else found) (among_rows ops w)
 
-none_either : {A B : Type 0} (as_ : Rows A) (bs : Rows B) (w : List ℕ) → SameWords as_ bs → row_of as_ w ≡ None → row_of bs w ≡ None
-none_either [] [] w same none = refl
-none_either [] (b ∷ bs) w same none = absurd same
-none_either (a ∷ as_) [] w same none = absurd same
-none_either (a ∷ as_) (b ∷ bs) w same none =
-    ap (λ v. if bytes_eq w v then Some b.1 else row_of bs w) (sym same.0)
-    ∙ none_by a.1 b.1 (row_of as_ w) (row_of bs w) (bytes_eq w a.0) none (none_either as_ bs w same.1)
+abbrev BareUnlessValue : List ℕ → Op → Type 0
+BareUnlessValue w o = IsNoValue w → IsBare w o
+
+pub bare_found : (w : List ℕ) (o : Op) → IsNoValue w → op_of_word w ≡ Some o → IsBare w o
+bare_found w o no_value found = found_holds BareUnlessValue (rows written_ops) w o
+    (λ none. record { word_is = refl; alone = refl; written = refl; formed = refl }, (λ none. record { word_is = refl; alone = refl; written = refl; formed = refl }, (λ none. record { word_is = refl; alone = refl; written = refl; formed = refl }, (λ none. record { word_is = refl; alone = refl; written = refl; formed = refl }, (λ none. record { word_is = refl; alone = refl; written = refl; formed = refl }, (λ none. record { word_is = refl; alone = refl; written = refl; formed = refl }, (λ none. record { word_is = refl; alone = refl; written = refl; formed = refl }, (λ none. record { word_is = refl; alone = refl; written = refl; formed = refl }, (λ none. record { word_is = refl; alone = refl; written = refl; formed = refl }, (λ none. record { word_is = refl; alone = refl; written = refl; formed = refl }, (λ none. record { word_is = refl; alone = refl; written = refl; formed = refl }, (λ none. record { word_is = refl; alone = refl; written = refl; formed = refl }, (λ none. record { word_is = refl; alone = refl; written = refl; formed = refl }, (λ none. record { word_is = refl; alone = refl; written = refl; formed = refl }, (λ none. record { word_is = refl; alone = refl; written = refl; formed = refl }, (λ none. record { word_is = refl; alone = refl; written = refl; formed = refl }, (λ none. record { word_is = refl; alone = refl; written = refl; formed = refl }, (λ none. record { word_is = refl; alone = refl; written = refl; formed = refl }, (λ none. absurd (cc), (λ none. record { word_is = refl; alone = refl; written = refl; formed = refl }, (λ none. absurd (cc), (λ none. absurd (cc), (λ none. record { word_is = refl; alone = refl; written = refl; formed = refl }, tt))))))))))))))))))))))) (sym (among_rows written_ops w) ∙ found) no_value
+
+-- a word that no row has, though the rows have each word of other rows, is not theirs
+none_by : {A B : Type 0} (as_ : Rows A) (b : List ℕ × B) (bs : Rows B) (w : List ℕ) (t : Bool) → bytes_eq w b.0 ≡ t → IsSome (row_of as_ b.0) → row_of as_ w ≡ None →
+    row_of bs w ≡ None → (if t then Some b.1 else row_of bs w) ≡ None
+none_by as_ b bs w true e some none rest = absurd (subst IsSome (ap (row_of as_) (sym ((bytes_eq-Decides w b.0).0 e)) ∙ none) some)
+none_by as_ b bs w false e some none rest = rest
+
+none_either : {A B : Type 0} (as_ : Rows A) (bs : Rows B) (w : List ℕ) → AllByRecursion (λ (b : List ℕ × B). IsSome (row_of as_ b.0)) bs → row_of as_ w ≡ None → row_of bs w ≡ None
+none_either as_ [] w all none = refl
+none_either as_ (b ∷ bs) w all none = none_by as_ b bs w (bytes_eq w b.0) refl all.0 none (none_either as_ bs w all.1 none)
 
 -- a row stands among the first or behind them
 behind_by : {A : Type 0} (a : A) (o p q : Option A) (t : Bool) → (if t then Some a else o) ≡ None → (o ≡ None → p ≡ q) → (if t then Some a else p) ≡ q
@@ -175,6 +191,17 @@ behind_by a o p q false e left = left e
 row_behind : {A : Type 0} (first rest : Rows A) (w : List ℕ) → row_of first w ≡ None → row_of (first ++ rest) w ≡ row_of rest w
 row_behind [] rest w none = refl
 row_behind (a ∷ first) rest w none = behind_by a.1 (row_of first w) (row_of (first ++ rest) w) (row_of rest w) (bytes_eq w a.0) none (row_behind first rest w)
+
+-- a list of an expression begins with the word of an operation, or with one of the first words
+pub no_row : (w : List ℕ) → IsNoValue w → op_of_word w ≡ None → row_of expressions w ≡ None
+no_row w no_value none =
+    row_behind (take 15 expressions) (drop 15 expressions) w no_value
+    ∙ none_either (rows written_ops) (drop 15 expressions) w
+    (tt, (tt, (tt, (tt, (tt, (tt, (tt, (tt, (tt, (tt, (tt, (tt, (tt, (tt, (tt, (tt, (tt, (tt, (tt, (tt, tt)))))))))))))))))))) (sym (among_rows written_ops w) ∙ none)
+
+-- and so its parts are those of the operation
+pub row_wanted : (w : List ℕ) (parts : List Tree) → row_of expressions w ≡ None → FitsSort sort.Expression (form w parts) → ⊥
+row_wanted w parts none fit = no_form sort.Expression w parts (ap (option_and_then (form_in newest)) none) fit
 
 -- an operation with its arguments alone
 plain_fits : (o : Op) (trees : List Tree) → form_of newest sort.Expression (Some (word_of_op o)) ≡ Some (exactly (sort.Word ∷ arguments (arity_of o))) →
@@ -249,3 +276,223 @@ pub exprs_fit : (es : List Expr) → are_formed_exprs es ≡ true → AllByRecur
 exprs_fit [] f = tt
 exprs_fit (e ∷ es) f = let h = apart (is_formed_expr e) (are_formed_exprs es) f in (expr_fits e h.0, exprs_fit es h.1)
 
+-- the words of values
+pub Unit-is : IsExpr (word (codes "unit")) made.Unit
+Unit-is = (ap tree_of_expr (sym rolls-Unit) ∙ fold-roll-Expr Tree expr_tree layer.Unit, ap is_formed_expr (sym rolls-Unit) ∙ fold-roll-Expr Bool expr_formed layer.Unit)
+
+pub True-is : IsExpr (word (codes "true")) (made.Truth true)
+True-is = (ap tree_of_expr (sym (rolls-Truth true)) ∙ fold-roll-Expr Tree expr_tree (layer.Truth true), ap is_formed_expr (sym (rolls-Truth true)) ∙ fold-roll-Expr Bool expr_formed (layer.Truth true))
+
+pub False-is : IsExpr (word (codes "false")) (made.Truth false)
+False-is = (ap tree_of_expr (sym (rolls-Truth false)) ∙ fold-roll-Expr Tree expr_tree (layer.Truth false), ap is_formed_expr (sym (rolls-Truth false)) ∙ fold-roll-Expr Bool expr_formed (layer.Truth false))
+
+word_named : (x w : List ℕ) → bytes_eq x w ≡ true → word w ≡ word x
+word_named x w e = ap word (sym ((bytes_eq-Decides x w).0 e))
+
+no_value_name : (x : List ℕ) → bytes_eq x (codes "true") ≡ false → bytes_eq x (codes "false") ≡ false → bytes_eq x (codes "unit") ≡ false → is_name x ≡ true
+no_value_name x p q r = rw (p, q, r) refl
+
+pub named_expr : (x : List ℕ) (a b c : Bool) → bytes_eq x (codes "true") ≡ a → bytes_eq x (codes "false") ≡ b → bytes_eq x (codes "unit") ≡ c → (e : Expr) × IsExpr (word x) e
+named_expr x true b c p q r = (made.Truth true, (True-is.0 ∙ word_named x (codes "true") p, True-is.1))
+named_expr x false true c p q r = (made.Truth false, (False-is.0 ∙ word_named x (codes "false") q, False-is.1))
+named_expr x false false true p q r = (made.Unit, (Unit-is.0 ∙ word_named x (codes "unit") r, Unit-is.1))
+named_expr x false false false p q r = (made.Name x, Name-is x (no_value_name x p q r))
+
+-- What fits is an expression.
+abbrev ExprOf : Tree → Type 0
+ExprOf t = FitsSort sort.Expression t → (e : Expr) × IsExpr t e
+
+abbrev Known : Type 0
+Known = (t : Tree) × ExprOf t
+
+abbrev trees : List Known → List Tree
+trees ps = map (λ p. p.0) ps
+
+exprs_from : (ps : List Known) → AllByRecursion (FitsSort sort.Expression) (trees ps) → (es : List Expr) × AreExprs (trees ps) es
+exprs_from [] all = ([], (refl, refl))
+exprs_from (p ∷ ps) all =
+    let e = p.1 all.0 in let es = exprs_from ps all.1 in
+    (e.0 ∷ es.0, (same_first e.1.0 es.1.0, both (is_formed_expr e.0) (are_formed_exprs es.0) e.1.1 es.1.1))
+
+bits-from : (ps : List Known) → HasParts (sort.Number ∷ sort.Number ∷ []) (trees ps) → (x : Expr) × IsExpr (form (codes "bits") (trees ps)) x
+bits-from (p0 ∷ p1 ∷ []) h =
+    let v0 = number_of p0.0 h.fit.0 in
+    let v1 = number_of p1.0 h.fit.1.0 in
+    (made.Bits v0.0 v1.0, Bits-is _ v0.0 v1.0 (same2 v0.1 v1.1) )
+bits-from _ h = absurd (omega (arith, h.count))
+
+of-from : (ps : List Known) → HasParts (sort.Name ∷ sort.Name ∷ []) (trees ps) → (x : Expr) × IsExpr (form (codes "of") (trees ps)) x
+of-from (p0 ∷ p1 ∷ []) h =
+    let v0 = name_of p0.0 h.fit.0 in
+    let v1 = name_of p1.0 h.fit.1.0 in
+    (made.Of v0.0 v1.0, Of-is _ v0.0 v1.0 (same2 v0.1.0 v1.1.0) v0.1.1 v1.1.1)
+of-from _ h = absurd (omega (arith, h.count))
+
+make-from : (ps : List Known) → HasParts (sort.Name ∷ sort.Expression ∷ []) (trees ps) → (x : Expr) × IsExpr (form (codes "make") (trees ps)) x
+make-from (p0 ∷ p1 ∷ []) h =
+    let v0 = name_of p0.0 h.fit.0 in
+    let v1 = p1.1 h.fit.1.0 in
+    (made.Make v0.0 v1.0, Make-is _ v0.0 v1.0 (same2 v0.1.0 v1.1.0) v0.1.1 v1.1.1)
+make-from _ h = absurd (omega (arith, h.count))
+
+rec-from : (ps : List Known) → HasParts (sort.Name ∷ replicate (length (trees ps) - 1) sort.Expression) (trees ps) → (x : Expr) × IsExpr (form (codes "rec") (trees ps)) x
+rec-from [] h = absurd h.fit
+rec-from (p ∷ ps) h =
+    let k = name_of p.0 h.fit.0 in
+    let es = exprs_from ps (rest_fits (sort.Name ∷ []) sort.Expression (length (trees (p ∷ ps)) - 1) (trees (p ∷ ps)) h) in
+    (made.Rec k.0 es.0, Rec-is _ k.0 es.0 (same_first k.1.0 es.1.0) k.1.1 es.1.1)
+
+register-from : (ps : List Known) → HasParts (sort.Name ∷ []) (trees ps) → (x : Expr) × IsExpr (form (codes "reg") (trees ps)) x
+register-from (p0 ∷ []) h =
+    let v0 = name_of p0.0 h.fit.0 in
+    (made.Register v0.0, Register-is _ v0.0 (same1 v0.1.0) v0.1.1)
+register-from _ h = absurd (omega (arith, h.count))
+
+kept-from : (ps : List Known) → HasParts (sort.Name ∷ []) (trees ps) → (x : Expr) × IsExpr (form (codes "kept") (trees ps)) x
+kept-from (p0 ∷ []) h =
+    let v0 = name_of p0.0 h.fit.0 in
+    (made.Kept v0.0, Kept-is _ v0.0 (same1 v0.1.0) v0.1.1)
+kept-from _ h = absurd (omega (arith, h.count))
+
+before-from : (ps : List Known) → HasParts (sort.Name ∷ []) (trees ps) → (x : Expr) × IsExpr (form (codes "before") (trees ps)) x
+before-from (p0 ∷ []) h =
+    let v0 = name_of p0.0 h.fit.0 in
+    (made.Before v0.0, Before-is _ v0.0 (same1 v0.1.0) v0.1.1)
+before-from _ h = absurd (omega (arith, h.count))
+
+after-from : (ps : List Known) → HasParts (sort.Name ∷ []) (trees ps) → (x : Expr) × IsExpr (form (codes "after") (trees ps)) x
+after-from (p0 ∷ []) h =
+    let v0 = name_of p0.0 h.fit.0 in
+    (made.After v0.0, After-is _ v0.0 (same1 v0.1.0) v0.1.1)
+after-from _ h = absurd (omega (arith, h.count))
+
+keptCell-from : (ps : List Known) → HasParts (sort.Number ∷ []) (trees ps) → (x : Expr) × IsExpr (form (codes "kept_cell") (trees ps)) x
+keptCell-from (p0 ∷ []) h =
+    let v0 = number_of p0.0 h.fit.0 in
+    (made.KeptCell v0.0, KeptCell-is _ v0.0 (same1 v0.1) )
+keptCell-from _ h = absurd (omega (arith, h.count))
+
+beforeCell-from : (ps : List Known) → HasParts (sort.Number ∷ []) (trees ps) → (x : Expr) × IsExpr (form (codes "before_cell") (trees ps)) x
+beforeCell-from (p0 ∷ []) h =
+    let v0 = number_of p0.0 h.fit.0 in
+    (made.BeforeCell v0.0, BeforeCell-is _ v0.0 (same1 v0.1) )
+beforeCell-from _ h = absurd (omega (arith, h.count))
+
+afterCell-from : (ps : List Known) → HasParts (sort.Number ∷ []) (trees ps) → (x : Expr) × IsExpr (form (codes "after_cell") (trees ps)) x
+afterCell-from (p0 ∷ []) h =
+    let v0 = number_of p0.0 h.fit.0 in
+    (made.AfterCell v0.0, AfterCell-is _ v0.0 (same1 v0.1) )
+afterCell-from _ h = absurd (omega (arith, h.count))
+
+get-from : (ps : List Known) → HasParts (sort.Name ∷ sort.Name ∷ sort.Expression ∷ []) (trees ps) → (x : Expr) × IsExpr (form (codes "get") (trees ps)) x
+get-from (p0 ∷ p1 ∷ p2 ∷ []) h =
+    let v0 = name_of p0.0 h.fit.0 in
+    let v1 = name_of p1.0 h.fit.1.0 in
+    let v2 = p2.1 h.fit.1.1.0 in
+    (made.Get v0.0 v1.0 v2.0, Get-is _ v0.0 v1.0 v2.0 (same3 v0.1.0 v1.1.0 v2.1.0) v0.1.1 v1.1.1 v2.1.1)
+get-from _ h = absurd (omega (arith, h.count))
+
+slice-from : (ps : List Known) → HasParts (sort.Number ∷ sort.Number ∷ sort.Expression ∷ []) (trees ps) → (x : Expr) × IsExpr (form (codes "slice") (trees ps)) x
+slice-from (p0 ∷ p1 ∷ p2 ∷ []) h =
+    let v0 = number_of p0.0 h.fit.0 in
+    let v1 = number_of p1.0 h.fit.1.0 in
+    let e = p2.1 h.fit.1.1.0 in
+    (made.Apply (op.Slice v0.0 v1.0) (e.0 ∷ []), Apply-is (op.Slice v0.0 v1.0) (e.0 ∷ []) (codes "slice") (p2.0 ∷ []) _ refl refl refl (same1 e.1.0) (both (is_formed_expr e.0) true e.1.1 refl) (same3 v0.1 v1.1 refl))
+slice-from _ h = absurd (omega (arith, h.count))
+
+zext-from : (ps : List Known) → HasParts (sort.Number ∷ sort.Expression ∷ []) (trees ps) → (x : Expr) × IsExpr (form (codes "zext") (trees ps)) x
+zext-from (p0 ∷ p1 ∷ []) h =
+    let v0 = number_of p0.0 h.fit.0 in
+    let e = p1.1 h.fit.1.0 in
+    (made.Apply (op.Zext v0.0) (e.0 ∷ []), Apply-is (op.Zext v0.0) (e.0 ∷ []) (codes "zext") (p1.0 ∷ []) _ refl refl refl (same1 e.1.0) (both (is_formed_expr e.0) true e.1.1 refl) (same2 v0.1 refl))
+zext-from _ h = absurd (omega (arith, h.count))
+
+sext-from : (ps : List Known) → HasParts (sort.Number ∷ sort.Expression ∷ []) (trees ps) → (x : Expr) × IsExpr (form (codes "sext") (trees ps)) x
+sext-from (p0 ∷ p1 ∷ []) h =
+    let v0 = number_of p0.0 h.fit.0 in
+    let e = p1.1 h.fit.1.0 in
+    (made.Apply (op.Sext v0.0) (e.0 ∷ []), Apply-is (op.Sext v0.0) (e.0 ∷ []) (codes "sext") (p1.0 ∷ []) _ refl refl refl (same1 e.1.0) (both (is_formed_expr e.0) true e.1.1 refl) (same2 v0.1 refl))
+sext-from _ h = absurd (omega (arith, h.count))
+
+bare-from : (w : List ℕ) (o : Op) → IsBare w o → (ps : List Known) → HasParts (replicate (arity_of o) sort.Expression) (trees ps) → (x : Expr) × IsExpr (form w (trees ps)) x
+bare-from w o bare ps h =
+    let es = exprs_from ps (all_same sort.Expression (arity_of o) (trees ps) h.fit) in
+    (made.Apply o es.0, Apply-is o es.0 w (trees ps) (trees ps) bare.word_is bare.written
+      (h.count ∙ length-replicate (arity_of o) sort.Expression) es.1.0 es.1.1 (ap (λ ns. ns ++ trees ps) bare.alone))
+
+-- the form of a word
+abbrev ListOf : List ℕ → Form → Type 0
+ListOf w f = (ps : List Known) → FitsSort sort.Expression (form w (trees ps)) → (x : Expr) × IsExpr (form w (trees ps)) x
+
+abbrev bare_list : (o : Op) → IsBare (word_of_op o) o → (f : Form) → ListOf (word_of_op o) f
+bare_list o bare f ps fit =
+    bare-from (word_of_op o) o bare ps (exact_parts sort.Expression (word_of_op o) (replicate (arity_of o) sort.Expression) (trees ps) bare.formed fit)
+
+list_rows : AllByRecursion (λ (row : List ℕ × Form). ListOf row.0 row.1) expressions
+list_rows = (
+    λ ps fit. bits-from ps (exact_parts sort.Expression (codes "bits") (sort.Number ∷ sort.Number ∷ []) (trees ps) refl fit),
+    (λ ps fit. of-from ps (exact_parts sort.Expression (codes "of") (sort.Name ∷ sort.Name ∷ []) (trees ps) refl fit),
+    (λ ps fit. make-from ps (exact_parts sort.Expression (codes "make") (sort.Name ∷ sort.Expression ∷ []) (trees ps) refl fit),
+    (λ ps fit. rec-from ps (many_parts sort.Expression (codes "rec") (sort.Name ∷ []) sort.Expression (trees ps) refl fit),
+    (λ ps fit. register-from ps (exact_parts sort.Expression (codes "reg") (sort.Name ∷ []) (trees ps) refl fit),
+    (λ ps fit. kept-from ps (exact_parts sort.Expression (codes "kept") (sort.Name ∷ []) (trees ps) refl fit),
+    (λ ps fit. before-from ps (exact_parts sort.Expression (codes "before") (sort.Name ∷ []) (trees ps) refl fit),
+    (λ ps fit. after-from ps (exact_parts sort.Expression (codes "after") (sort.Name ∷ []) (trees ps) refl fit),
+    (λ ps fit. keptCell-from ps (exact_parts sort.Expression (codes "kept_cell") (sort.Number ∷ []) (trees ps) refl fit),
+    (λ ps fit. beforeCell-from ps (exact_parts sort.Expression (codes "before_cell") (sort.Number ∷ []) (trees ps) refl fit),
+    (λ ps fit. afterCell-from ps (exact_parts sort.Expression (codes "after_cell") (sort.Number ∷ []) (trees ps) refl fit),
+    (λ ps fit. get-from ps (exact_parts sort.Expression (codes "get") (sort.Name ∷ sort.Name ∷ sort.Expression ∷ []) (trees ps) refl fit),
+    (λ ps fit. slice-from ps (exact_parts sort.Expression (codes "slice") (sort.Number ∷ sort.Number ∷ sort.Expression ∷ []) (trees ps) refl fit),
+    (λ ps fit. zext-from ps (exact_parts sort.Expression (codes "zext") (sort.Number ∷ sort.Expression ∷ []) (trees ps) refl fit),
+    (λ ps fit. sext-from ps (exact_parts sort.Expression (codes "sext") (sort.Number ∷ sort.Expression ∷ []) (trees ps) refl fit),
+    (bare_list op.Not (record { word_is = refl; alone = refl; written = refl; formed = refl }) _,
+    (bare_list op.And (record { word_is = refl; alone = refl; written = refl; formed = refl }) _,
+    (bare_list op.Or (record { word_is = refl; alone = refl; written = refl; formed = refl }) _,
+    (bare_list op.Eq (record { word_is = refl; alone = refl; written = refl; formed = refl }) _,
+    (bare_list op.Ult (record { word_is = refl; alone = refl; written = refl; formed = refl }) _,
+    (bare_list op.Ule (record { word_is = refl; alone = refl; written = refl; formed = refl }) _,
+    (bare_list op.Slt (record { word_is = refl; alone = refl; written = refl; formed = refl }) _,
+    (bare_list op.Sle (record { word_is = refl; alone = refl; written = refl; formed = refl }) _,
+    (bare_list op.Add (record { word_is = refl; alone = refl; written = refl; formed = refl }) _,
+    (bare_list op.Sub (record { word_is = refl; alone = refl; written = refl; formed = refl }) _,
+    (bare_list op.Mul (record { word_is = refl; alone = refl; written = refl; formed = refl }) _,
+    (bare_list op.Band (record { word_is = refl; alone = refl; written = refl; formed = refl }) _,
+    (bare_list op.Bor (record { word_is = refl; alone = refl; written = refl; formed = refl }) _,
+    (bare_list op.Bxor (record { word_is = refl; alone = refl; written = refl; formed = refl }) _,
+    (bare_list op.Bnot (record { word_is = refl; alone = refl; written = refl; formed = refl }) _,
+    (bare_list op.Shl (record { word_is = refl; alone = refl; written = refl; formed = refl }) _,
+    (bare_list op.Shr (record { word_is = refl; alone = refl; written = refl; formed = refl }) _,
+    (bare_list op.Sar (record { word_is = refl; alone = refl; written = refl; formed = refl }) _,
+    (bare_list op.Cat (record { word_is = refl; alone = refl; written = refl; formed = refl }) _,
+    (bare_list op.Ite (record { word_is = refl; alone = refl; written = refl; formed = refl }) _, tt)))))))))))))))))))))))))))))))))))
+
+list_by : (w : List ℕ) (ps : List Known) (found : Option Form) → row_of expressions w ≡ found → FitsSort sort.Expression (form w (trees ps)) →
+    (x : Expr) × IsExpr (form w (trees ps)) x
+list_by w ps None none fit = absurd (row_wanted w (trees ps) none fit)
+list_by w ps (Some f) found fit = found_holds ListOf expressions w f list_rows found ps fit
+
+list_of : (ps : List Known) → ExprOf (variant.List (trees ps))
+list_of [] fit = absurd (let h = headed sort.Expression [] refl fit in omega (arith, ap length h.is))
+list_of (p ∷ ps) fit =
+    let h = headed sort.Expression (trees (p ∷ ps)) refl fit in
+    let first : p.0 ≡ word h.head = let e = h.is in cc in
+    let is : variant.List (trees (p ∷ ps)) ≡ form h.head (trees ps) = ap (λ t. variant.List (t ∷ trees ps)) first in
+    subst (λ t. (x : Expr) × IsExpr t x) (sym is)
+    (list_by h.head ps (row_of expressions h.head) refl (subst (FitsSort sort.Expression) is fit))
+
+expr_atom : (t : Token) → ExprOf (variant.Atom t)
+expr_atom (token.Number n) fit = absurd (let e = fits_of_token sort.Expression (token.Number n) fit in cc)
+expr_atom (token.Name x) fit = named_expr x (bytes_eq x (codes "true")) (bytes_eq x (codes "false")) (bytes_eq x (codes "unit")) refl refl refl
+
+expr_layer_of : (y : Tree-F Known) → ExprOf (roll-Tree (map-Tree Known Tree (λ p. p.0) y))
+expr_layer_of (Tree-F.Atom t) = subst ExprOf (sym (rolls-Atom t)) (expr_atom t)
+expr_layer_of (Tree-F.List ps) = subst ExprOf (sym (rolls-List (trees ps))) (list_of ps)
+
+pub expr_of : (t : Tree) → FitsSort sort.Expression t → (e : Expr) × IsExpr t e
+expr_of = ind-Tree ExprOf (λ x y is. subst (λ z. ExprOf (roll-Tree z)) is (expr_layer_of y))
+
+pub exprs_of : (ts : List Tree) → AllByRecursion (FitsSort sort.Expression) ts → (es : List Expr) × AreExprs ts es
+exprs_of [] all = ([], (refl, refl))
+exprs_of (t ∷ ts) all =
+    let e = expr_of t all.0 in let es = exprs_of ts all.1 in
+    (e.0 ∷ es.0, (same_first e.1.0 es.1.0, both (is_formed_expr e.0) (are_formed_exprs es.0) e.1.1 es.1.1))

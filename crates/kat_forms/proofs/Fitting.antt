@@ -29,6 +29,14 @@ judged-Atom t = ap judged (sym (rolls-Atom t)) ∙ fold-roll-Tree Judged (judged
 judged-List : (parts : List Tree) → judged (variant.List parts) ≡ judged_layer newest (Tree-F.List (map judged parts))
 judged-List parts = ap judged (sym (rolls-List parts)) ∙ fold-roll-Tree Judged (judged_layer newest) (Tree-F.List parts)
 
+-- what is so of atoms and of lists
+by_rolled : (P : Tree → Type 0) → ((t : Token) → P (variant.Atom t)) → ((parts : List Tree) → P (variant.List parts)) → (y : Tree-F Tree) → P (roll-Tree y)
+by_rolled P atom list (Tree-F.Atom t) = subst P (sym (rolls-Atom t)) (atom t)
+by_rolled P atom list (Tree-F.List parts) = subst P (sym (rolls-List parts)) (list parts)
+
+pub by_layer : (P : Tree → Type 0) → ((t : Token) → P (variant.Atom t)) → ((parts : List Tree) → P (variant.List parts)) → (t : Tree) → P t
+by_layer P atom list t = subst P (roll-out-Tree t) (by_rolled P atom list (out-Tree t))
+
 -- atoms
 pub token_fits : (s : Sort) (t : Token) → fits_token newest s t ≡ true → FitsSort s (variant.Atom t)
 token_fits s t e = ap (λ (j : Judged). j.fits s) (judged-Atom t) ∙ e
@@ -40,6 +48,13 @@ fits_of_token s t e = sym (ap (λ (j : Judged). j.fits s) (judged-Atom t)) ∙ e
 list_from : (s : Sort) (parts : List Tree) → FitsSort s (variant.List parts) →
     list_fits (sorts_for newest s (first_word (map judged parts)) (length (map judged parts))) (map judged parts) ≡ true
 list_from s parts fit = sym (ap (λ (j : Judged). j.fits s) (judged-List parts)) ∙ fit
+
+-- a sort of which no list is
+pub no_list : (s : Sort) (parts : List Tree) → ((found : Option (List ℕ)) → form_of newest s found ≡ None) → FitsSort s (variant.List parts) → ⊥
+no_list s parts none fit =
+    let e =
+    sym (ap (λ found. list_fits (option_and_then (λ f. sorts_of f (length (map judged parts))) found) (map judged parts)) (none (first_word (map judged parts))))
+    ∙ list_from s parts fit in absurd (cc)
 
 word_of : (w : List ℕ) → (judged (word w)).word ≡ Some w
 word_of w = ap (λ (j : Judged). j.word) (judged-Atom (token.Name w))
@@ -58,6 +73,14 @@ same_form s w parts f formed =
 
 form_from : (s : Sort) (w : List ℕ) (parts : List Tree) (f : Form) → form_of newest s (Some w) ≡ Some f → FitsSort s (form w parts) → FitForm f w parts
 form_from s w parts f formed fit = sym (same_form s w parts f formed) ∙ list_from s (word w ∷ parts) fit
+
+-- a word that begins no form of the sort
+pub no_form : (s : Sort) (w : List ℕ) (parts : List Tree) → form_of newest s (Some w) ≡ None → FitsSort s (form w parts) → ⊥
+no_form s w parts none fit =
+    let e =
+    sym (ap (λ first. list_fits (sorts_for newest s first (length (map judged (word w ∷ parts)))) (map judged (word w ∷ parts))) (word_of w)
+    ∙ ap (λ found. list_fits (option_and_then (λ g. sorts_of g (length (map judged (word w ∷ parts)))) found) (map judged (word w ∷ parts))) none)
+    ∙ list_from s (word w ∷ parts) fit in absurd (cc)
 
 -- as many parts as sorts
 all_from : (sorts : List Sort) (parts : List Tree) → length parts ≡ length sorts → all_fit sorts (map judged parts) ≡ true → AllFit sorts parts
@@ -190,6 +213,11 @@ all_rest (f ∷ first) s n (t ∷ parts) fit = all_rest first s n parts fit.1
 pub rest_fits : (first : List Sort) (s : Sort) (n : ℕ) (parts : List Tree) → HasParts (first ++ replicate n s) parts → AllByRecursion (FitsSort s) (drop (length first) parts)
 rest_fits first s n parts has = all_rest first s n parts has.fit
 
+-- at least one part, all of one sort
+pub some_fit : (s : Sort) (n : ℕ) (parts : List Tree) → HasParts (s ∷ replicate n s) parts → AllByRecursion (FitsSort s) parts
+some_fit s n [] has = absurd has.fit
+some_fit s n (t ∷ parts) has = (has.fit.0, all_same s n parts has.fit.1)
+
 -- the parts before the last
 all_before : (s last : Sort) (n : ℕ) (parts : List Tree) → AllFit (replicate n s ++ last ∷ []) parts → AllByRecursion (FitsSort s) (take n parts)
 all_before s last zero parts fit = tt
@@ -207,6 +235,15 @@ all_last s last (suc n) (t ∷ parts) part fit at = all_last s last n parts part
 
 pub last_fits : (s last : Sort) (n : ℕ) (parts : List Tree) (part : Tree) → HasParts (replicate n s ++ last ∷ []) parts → At parts n part → FitsSort last part
 last_fits s last n parts part has at = all_last s last n parts part has.fit at
+
+pub one_last : (s last : Sort) (n : ℕ) (parts : List Tree) → HasParts (replicate n s ++ last ∷ []) parts → (part : Tree) × (take n parts ++ part ∷ [] ≡ parts) × FitsSort last part
+one_last s last zero [] has = absurd has.fit
+one_last s last zero (t ∷ []) has = (t, refl, has.fit.0)
+one_last s last zero (t ∷ u ∷ parts) has = absurd has.fit.1
+one_last s last (suc n) [] has = absurd has.fit
+one_last s last (suc n) (t ∷ parts) has =
+    let found = one_last s last n parts (record { count = let e = has.count in omega arith; fit = has.fit.1 }) in
+    (found.0, ap (λ ts. t ∷ ts) found.1, found.2)
 
 -- a tree that is a name
 word_of_roll : (y : Tree-F Tree) (w : List ℕ) → (judged (roll-Tree y)).word ≡ Some w → roll-Tree y ≡ word w
@@ -233,60 +270,63 @@ pub headed : (s : Sort) (parts : List Tree) → form_of newest s None ≡ None �
 headed s [] none fit = absurd (no_word s [] 0 none (list_from s [] fit))
 headed s (t ∷ parts) none fit = headed_by s t parts (judged t).word refl none (list_from s (t ∷ parts) fit)
 
--- a sort of one form, of a word and one part
-pub record HasOneForm (s : Sort) (w : List ℕ) (inner : Sort) : Type 0 where
+-- a sort of one form
+pub record HasOneForm (s : Sort) (w : List ℕ) (f : Form) : Type 0 where
   pub none : form_of newest s None ≡ None
   pub some : (x : List ℕ) → form_of newest s (Some x) ≡ form_of_word newest s (Some x)
-  pub rows : forms_of s ≡ (w, exactly (sort.Word ∷ inner ∷ [])) ∷ []
+  pub rows : forms_of s ≡ (w, f) ∷ []
+  pub formed : form_of newest s (Some w) ≡ Some f
 
-module _ (s : Sort) (w : List ℕ) (inner : Sort) (has : HasOneForm s w inner) where
-  held_by : (x : List ℕ) (parts : List Tree) (b : Bool) → bytes_eq x w ≡ b →
-      list_fits (option_and_then (λ f. sorts_of f (length parts + 1)) (option_and_then (form_in newest) (if b then Some (exactly (sort.Word ∷ inner ∷ [])) else None)))
-      (judged (word x) ∷ map judged parts) ≡ true →
-      (x ≡ w) × HasParts (inner ∷ []) parts
-  held_by x parts true e fit =
-      let found = exact_fit (sort.Word ∷ inner ∷ []) (length parts + 1) (judged (word x) ∷ map judged parts) fit in
-      let long : length parts ≡ 1 = let e = found.0 in omega arith in (
-        (bytes_eq-Decides x w).0 e,
-        record { count = long; fit = all_from (inner ∷ []) parts long (right_true ((judged (word x)).fits sort.Word) (all_fit (inner ∷ []) (map judged parts)) found.1) },
-      )
-  held_by x parts false e fit = absurd (cc)
+module _ (s : Sort) (w : List ℕ) (f : Form) (has : HasOneForm s w f) where
+  word_by : (x : List ℕ) (parts : List Tree) (b : Bool) → bytes_eq x w ≡ b → FitsSort s (form x parts) → x ≡ w
+  word_by x parts true e fit = (bytes_eq-Decides x w).0 e
+  word_by x parts false e fit = absurd (no_form s x parts (
+    has.some x ∙ ap (λ rows. option_and_then (form_in newest) (row_of rows x)) has.rows
+    ∙ ap (λ b. option_and_then (form_in newest) (if b then Some f else None)) e) fit)
 
-  -- the word, and the part
-  pub held : (x : List ℕ) (parts : List Tree) → FitsSort s (form x parts) → (x ≡ w) × HasParts (inner ∷ []) parts
-  held x parts fit = held_by x parts (bytes_eq x w) refl (
-    sym (ap (λ first. list_fits (sorts_for newest s first (length (map judged (word x ∷ parts)))) (map judged (word x ∷ parts))) (word_of x)
-    ∙ ap (λ found. list_fits (option_and_then (λ f. sorts_of f (length (map judged (word x ∷ parts)))) found) (map judged (word x ∷ parts)))
-    (has.some x ∙ ap (λ rows. option_and_then (form_in newest) (row_of rows x)) has.rows)
-    ∙ ap (λ n. list_fits (option_and_then (λ f. sorts_of f n) (option_and_then (form_in newest) (if bytes_eq x w then Some (exactly (sort.Word ∷ inner ∷ [])) else None))) (map judged (word x ∷ parts)))
-    (let e = length-map parts judged in omega arith))
-    ∙ list_from s (word x ∷ parts) fit)
+  -- its word
+  pub one_word : (x : List ℕ) (parts : List Tree) → FitsSort s (form x parts) → x ≡ w
+  one_word x parts fit = word_by x parts (bytes_eq x w) refl fit
 
-  one_held : (parts : List Tree) → HasParts (inner ∷ []) parts → (part : Tree) × (parts ≡ part ∷ []) × FitsSort inner part
-  one_held [] h = absurd h.fit
-  one_held (part ∷ []) h = (part, refl, h.fit.0)
-  one_held (part ∷ more ∷ parts) h = absurd h.fit.1
+  -- a list that fits begins with it
+  pub one_form : (parts : List Tree) → FitsSort s (variant.List parts) → (behind : List Tree) × (parts ≡ word w ∷ behind) × FitsSort s (form w behind)
+  one_form parts fit =
+      let head = headed s parts has.none fit in
+      let fits = subst (λ ps. FitsSort s (variant.List ps)) head.is fit in
+      let same = one_word head.head head.behind fits in
+      (head.behind, head.is ∙ ap (λ x. word x ∷ head.behind) same, subst (λ x. FitsSort s (form x head.behind)) same fits)
 
+-- a sort of lists of a word and one part
+abbrev pub HoldsOne : Sort → List ℕ → Sort → Type 0
+HoldsOne s w inner = HasOneForm s w (exactly (sort.Word ∷ inner ∷ []))
+
+one_held : (inner : Sort) (parts : List Tree) → HasParts (inner ∷ []) parts → (part : Tree) × (parts ≡ part ∷ []) × FitsSort inner part
+one_held inner [] h = absurd h.fit
+one_held inner (part ∷ []) h = (part, refl, h.fit.0)
+one_held inner (part ∷ more ∷ parts) h = absurd h.fit.1
+
+module _ (s : Sort) (w : List ℕ) (inner : Sort) (has : HoldsOne s w inner) where
   -- a list that fits is the word and one part
   pub held_list : (parts : List Tree) → FitsSort s (variant.List parts) → (part : Tree) × (parts ≡ word w ∷ part ∷ []) × FitsSort inner part
   held_list parts fit =
-      let head = headed s parts has.none fit in
-      let found = held head.head head.behind (subst (λ ps. FitsSort s (variant.List ps)) head.is fit) in
-      let one = one_held head.behind found.1 in
-      (one.0, head.is ∙ ap (λ x. word x ∷ head.behind) found.0 ∙ ap (λ ps. word w ∷ ps) one.1, one.2)
+      let found = one_form s w (exactly (sort.Word ∷ inner ∷ [])) has parts fit in
+      let one = one_held inner found.0 (exact_parts s w (inner ∷ []) found.0 has.formed found.2) in
+      (one.0, found.1 ∙ ap (λ ps. word w ∷ ps) one.1, one.2)
 
   -- the part that it holds
   pub held_part : (x : List ℕ) (tree part : Tree) → tree ≡ form x (part ∷ []) → FitsSort s tree → (form w (part ∷ []) ≡ tree) × FitsSort inner part
   held_part x tree part is fit =
-      let found = held x (part ∷ []) (subst (FitsSort s) is fit) in
-      (sym (is ∙ ap (λ x. form x (part ∷ [])) found.0), found.1.fit.0)
+      let fits = subst (FitsSort s) is fit in
+      let same = one_word s w (exactly (sort.Word ∷ inner ∷ [])) has x (part ∷ []) fits in
+      let h = exact_parts s w (inner ∷ []) (part ∷ []) has.formed (subst (λ v. FitsSort s (form v (part ∷ []))) same fits) in
+      (sym (is ∙ ap (λ v. form v (part ∷ [])) same), h.fit.0)
 
 -- a sort of which no atom is
 pub record HasNoAtoms (s : Sort) : Type 0 where
   pub numbers : (n : ℕ) → fits_token newest s (token.Number n) ≡ false
   pub names : (x : List ℕ) → fits_token newest s (token.Name x) ≡ false
 
-no_atom : (s : Sort) (t : Token) → HasNoAtoms s → FitsSort s (variant.Atom t) → ⊥
+pub no_atom : (s : Sort) (t : Token) → HasNoAtoms s → FitsSort s (variant.Atom t) → ⊥
 no_atom s (token.Number n) no fit = let e = fits_of_token s (token.Number n) fit in let f = no.numbers n in absurd (cc)
 no_atom s (token.Name x) no fit = let e = fits_of_token s (token.Name x) fit in let f = no.names x in absurd (cc)
 
@@ -300,8 +340,13 @@ is_list s tree no fit =
     let found = list_layer s (out-Tree tree) no (subst (FitsSort s) (sym (roll-out-Tree tree)) fit) in
     (found.0, sym (roll-out-Tree tree) ∙ found.1)
 
+pub list_holder : (s : Sort) (w : List ℕ) (inner : Sort) (tree : Tree) (parts : List Tree) → HoldsOne s w inner → tree ≡ variant.List parts → FitsSort s tree → IsHolder tree
+list_holder s w inner tree parts has is fit =
+    let one = held_list s w inner has parts (subst (FitsSort s) is fit) in
+    record { head = w; part = one.0; is = is ∙ ap variant.List one.1 }
+
 -- a list of a word and one part
-pub holder : (s : Sort) (w : List ℕ) (inner : Sort) (tree : Tree) → HasOneForm s w inner → HasNoAtoms s → FitsSort s tree → IsHolder tree
+pub holder : (s : Sort) (w : List ℕ) (inner : Sort) (tree : Tree) → HoldsOne s w inner → HasNoAtoms s → FitsSort s tree → IsHolder tree
 holder s w inner tree has no fit =
     let list = is_list s tree no fit in
     let one = held_list s w inner has list.0 (subst (FitsSort s) list.1 fit) in

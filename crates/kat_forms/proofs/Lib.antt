@@ -5,3 +5,4 @@ pub mod ExpressionForms
 pub mod StatementForms
 pub mod AssertionForms
 pub mod DeclarationForms
+pub mod SpecificationForms

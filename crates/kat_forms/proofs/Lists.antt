@@ -54,6 +54,29 @@ six parts a b c d e f long p q r s t u =
     (next parts 2 c (d ∷ e ∷ f ∷ []) (omega arith) r (next parts 3 d (e ∷ f ∷ []) (omega arith) s
     (next parts 4 e (f ∷ []) (omega arith) t (next parts 5 f [] (omega arith) u (nothing parts 6 (omega arith)))))))
 
+-- equal parts make equal lists
+pub same1 : {A : Type 0} {a x : A} → a ≡ x → a ∷ [] ≡ x ∷ []
+same1 p = ap (λ y. y ∷ []) p
+
+pub same_first : {A : Type 0} {a x : A} {as_ xs : List A} → a ≡ x → as_ ≡ xs → a ∷ as_ ≡ x ∷ xs
+same_first p q = cc
+
+pub same2 : {A : Type 0} {a b x y : A} → a ≡ x → b ≡ y → a ∷ b ∷ [] ≡ x ∷ y ∷ []
+same2 p q = same_first p (same1 q)
+
+pub same3 : {A : Type 0} {a b c x y z : A} → a ≡ x → b ≡ y → c ≡ z → a ∷ b ∷ c ∷ [] ≡ x ∷ y ∷ z ∷ []
+same3 p q r = same_first p (same2 q r)
+
+pub same4 : {A : Type 0} {a b c d x y z u : A} → a ≡ x → b ≡ y → c ≡ z → d ≡ u → a ∷ b ∷ c ∷ d ∷ [] ≡ x ∷ y ∷ z ∷ u ∷ []
+same4 p q r s = same_first p (same3 q r s)
+
+pub same5 : {A : Type 0} {a b c d e x y z u v : A} → a ≡ x → b ≡ y → c ≡ z → d ≡ u → e ≡ v → a ∷ b ∷ c ∷ d ∷ e ∷ [] ≡ x ∷ y ∷ z ∷ u ∷ v ∷ []
+same5 p q r s t = same_first p (same4 q r s t)
+
+pub same6 : {A : Type 0} {a b c d e f x y z u v w : A} → a ≡ x → b ≡ y → c ≡ z → d ≡ u → e ≡ v → f ≡ w →
+    a ∷ b ∷ c ∷ d ∷ e ∷ f ∷ [] ≡ x ∷ y ∷ z ∷ u ∷ v ∷ w ∷ []
+same6 p q r s t o = same_first p (same5 q r s t o)
+
 -- what stands behind the first parts of a list
 pub rest_is : (parts : List Tree) (k : ℕ) → take (length parts - k) (drop k parts) ≡ drop k parts
 rest_is parts k = take_all (length parts - k) (drop k parts) (omega (arith, length-drop k parts))

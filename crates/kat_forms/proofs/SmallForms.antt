@@ -1,6 +1,9 @@
 -- Names, numbers, types, parameters, and lists of a word and one part: what fits is one, and the tree of one fits.
-use Rattle.std.proofs.Common.{◌≡◌, ℕ, Bool, ◌+◌, List, [], ◌∷◌, ◌++◌, ◌&&◌, not, length, map, true, false, Option, Some, None, refl, ap, sym, subst, ◌∙◌, arith}
+use Rattle.std.proofs.Common.{◌≡◌, ℕ, Bool, ◌+◌, ◌-◌, List, [], ◌∷◌, ◌++◌, ◌&&◌, not, length, map, true, false, Option, Some, None, refl, ap, sym, subst, ◌∙◌, arith}
 use Rattle.std.specs.Str.{bytes_eq}
+use Rattle.std.proofs.lemmas.List.{length-replicate}
+use Rattle.std.proofs.lemmas.Slice.Eq.{bytes_eq-Decides}
+use Rattle.kat_tree.specs.declared.tree.Token.{Token}
 use Rattle.std.specs.Prelude.{codes, replicate}
 use Rattle.std.specs.List.{AllByRecursion}
 use Rattle.kat_tree.specs.declared.tree.Token.TheVariants as token
@@ -16,9 +19,9 @@ use Rattle.kat_ast.specs.Types.{tree_of_type, tree_of_param, tree_of_params, is_
 use Rattle.kat_shapes.specs.Forms.{exactly, many, form_of, newest}
 use Rattle.kat_shapes.specs.Fits.{fits}
 use Rattle.kat_forms.specs.Parts.{FitsSort, HasParts}
-use Rattle.kat_forms.specs.Forms.{IsType, IsParam}
-use Rattle.kat_forms.proofs.Fitting.{token_fits, form_fits, place_fits, many_sorts, all_of_one, HasOneForm, HasNoAtoms, held_part}
-use Rattle.kat_forms.proofs.Lists.{both}
+use Rattle.kat_forms.specs.Forms.{IsName, IsType, IsParam, AreNames, AreParams}
+use Rattle.kat_forms.proofs.Fitting.{by_layer, token_fits, fits_of_token, form_fits, place_fits, many_sorts, all_of_one, no_list, exact_place, many_place, rest_fits, some_fit, HoldsOne, HasNoAtoms, held_list, held_part, is_list, list_holder}
+use Rattle.kat_forms.proofs.Lists.{both, same2, same_first}
 
 -- two truths apart
 pub apart : (a b : Bool) → a && b ≡ true → (a ≡ true) × (b ≡ true)
@@ -26,32 +29,32 @@ apart true b e = (refl, e)
 apart false b e = absurd (cc)
 
 -- the sorts of a word and one part
-pub one_bits : HasOneForm sort.TypeName (codes "bits") sort.Number
-one_bits = record { none = refl; some = λ x. refl; rows = refl }
+pub one_bits : HoldsOne sort.TypeName (codes "bits") sort.Number
+one_bits = record { none = refl; some = λ x. refl; rows = refl; formed = refl }
 
-pub one_block : HasOneForm sort.Phase (codes "block") sort.Name
-one_block = record { none = refl; some = λ x. refl; rows = refl }
+pub one_block : HoldsOne sort.Phase (codes "block") sort.Name
+one_block = record { none = refl; some = λ x. refl; rows = refl; formed = refl }
 
-pub one_pre : HasOneForm sort.Pre (codes "pre") sort.Assertion
-one_pre = record { none = refl; some = λ x. refl; rows = refl }
+pub one_pre : HoldsOne sort.Pre (codes "pre") sort.Assertion
+one_pre = record { none = refl; some = λ x. refl; rows = refl; formed = refl }
 
-pub one_post : HasOneForm sort.Post (codes "post") sort.Assertion
-one_post = record { none = refl; some = λ x. refl; rows = refl }
+pub one_post : HoldsOne sort.Post (codes "post") sort.Assertion
+one_post = record { none = refl; some = λ x. refl; rows = refl; formed = refl }
 
-pub one_entry : HasOneForm sort.Entry (codes "entry") sort.Assertion
-one_entry = record { none = refl; some = λ x. refl; rows = refl }
+pub one_entry : HoldsOne sort.Entry (codes "entry") sort.Assertion
+one_entry = record { none = refl; some = λ x. refl; rows = refl; formed = refl }
 
-pub one_res : HasOneForm sort.Res (codes "res") sort.Name
-one_res = record { none = refl; some = λ x. refl; rows = refl }
+pub one_res : HoldsOne sort.Res (codes "res") sort.Name
+one_res = record { none = refl; some = λ x. refl; rows = refl; formed = refl }
 
-pub one_within : HasOneForm sort.Within (codes "within") sort.Number
-one_within = record { none = refl; some = λ x. refl; rows = refl }
+pub one_within : HoldsOne sort.Within (codes "within") sort.Number
+one_within = record { none = refl; some = λ x. refl; rows = refl; formed = refl }
 
-pub one_change : HasOneForm sort.Change (codes "change") sort.Expression
-one_change = record { none = refl; some = λ x. refl; rows = refl }
+pub one_change : HoldsOne sort.Change (codes "change") sort.Expression
+one_change = record { none = refl; some = λ x. refl; rows = refl; formed = refl }
 
-pub one_else : HasOneForm sort.Else (codes "else") sort.Phase
-one_else = record { none = refl; some = λ x. refl; rows = refl }
+pub one_else : HoldsOne sort.Else (codes "else") sort.Phase
+one_else = record { none = refl; some = λ x. refl; rows = refl; formed = refl }
 
 pub no_pre : HasNoAtoms sort.Pre
 no_pre = record { numbers = λ n. refl; names = λ x. refl }
@@ -156,3 +159,126 @@ pub each_number : (ns : List ℕ) → AllByRecursion (FitsSort sort.Number) (map
 each_number [] = tt
 each_number (n ∷ ns) = (number_fits n, each_number ns)
 
+-- a name that is no word of a value or a type
+named_type : (a b c d : Bool) → c ≡ false → d ≡ false → not a && not b ≡ true → (not a && (not b && not c)) && not d ≡ true
+named_type true b c d p q f = absurd (cc)
+named_type false true c d p q f = absurd (cc)
+named_type false false c d p q f = rw (p, q) refl
+
+-- What fits is one.
+
+-- sorts of which no list is
+no_name_list : (found : Option (List ℕ)) → form_of newest sort.Name found ≡ None
+no_name_list None = refl
+no_name_list (Some x) = refl
+
+no_number_list : (found : Option (List ℕ)) → form_of newest sort.Number found ≡ None
+no_number_list None = refl
+no_number_list (Some x) = refl
+
+pub no_register_list : (found : Option (List ℕ)) → form_of newest sort.RegisterPlace found ≡ None
+no_register_list None = refl
+no_register_list (Some x) = refl
+
+pub no_cells_list : (found : Option (List ℕ)) → form_of newest sort.CellsPlace found ≡ None
+no_cells_list None = refl
+no_cells_list (Some x) = refl
+
+-- a name
+abbrev NameOf : Tree → Type 0
+NameOf t = FitsSort sort.Name t → (x : List ℕ) × IsName t x
+
+name_atom : (t : Token) → NameOf (variant.Atom t)
+name_atom (token.Name x) fit = (x, (refl, fits_of_token sort.Name (token.Name x) fit))
+name_atom (token.Number n) fit = absurd (let e = fits_of_token sort.Name (token.Number n) fit in cc)
+
+pub name_of : (t : Tree) → FitsSort sort.Name t → (x : List ℕ) × IsName t x
+name_of = by_layer NameOf name_atom (λ parts fit. absurd (no_list sort.Name parts no_name_list fit))
+
+-- a number
+abbrev NumberOf : Tree → Type 0
+NumberOf t = FitsSort sort.Number t → (n : ℕ) × (number n ≡ t)
+
+number_atom : (t : Token) → NumberOf (variant.Atom t)
+number_atom (token.Number n) fit = (n, refl)
+number_atom (token.Name x) fit = absurd (let e = fits_of_token sort.Number (token.Name x) fit in cc)
+
+pub number_of : (t : Tree) → FitsSort sort.Number t → (n : ℕ) × (number n ≡ t)
+number_of = by_layer NumberOf number_atom (λ parts fit. absurd (no_list sort.Number parts no_number_list fit))
+
+pub numbers_of : (trees : List Tree) → AllByRecursion (FitsSort sort.Number) trees → (ns : List ℕ) × (map number ns ≡ trees)
+numbers_of [] all = ([], refl)
+numbers_of (t ∷ trees) all = let n = number_of t all.0 in let ns = numbers_of trees all.1 in (n.0 ∷ ns.0, same_first n.1 ns.1)
+
+pub names_of : (trees : List Tree) → AllByRecursion (FitsSort sort.Name) trees → (xs : List (List ℕ)) × AreNames trees xs
+names_of [] all = ([], (refl, refl))
+names_of (t ∷ trees) all =
+    let x = name_of t all.0 in let xs = names_of trees all.1 in
+    (x.0 ∷ xs.0, (same_first x.1.0 xs.1.0, both (is_name x.0) (every (map is_name xs.0)) x.1.1 xs.1.1))
+
+-- a type
+abbrev TypeOf : Tree → Type 0
+TypeOf t = FitsSort sort.TypeName t → (ty : TypeName) × IsType t ty
+
+is_type_name : (x : List ℕ) (b c : Bool) → bytes_eq x (codes "unit") ≡ b → bytes_eq x (codes "bool") ≡ c →
+    not (bytes_eq x (codes "true")) && not (bytes_eq x (codes "false")) ≡ true → (ty : TypeName) × IsType (word x) ty
+is_type_name x true c p q f = (type.Unit, (ap word (sym ((bytes_eq-Decides x (codes "unit")).0 p)), refl))
+is_type_name x false true p q f = (type.Bool, (ap word (sym ((bytes_eq-Decides x (codes "bool")).0 q)), refl))
+is_type_name x false false p q f = (type.Named x, (refl, named_type (bytes_eq x (codes "true")) (bytes_eq x (codes "false")) (bytes_eq x (codes "unit")) (bytes_eq x (codes "bool")) p q f))
+
+type_atom : (t : Token) → TypeOf (variant.Atom t)
+type_atom (token.Name x) fit =
+    is_type_name x (bytes_eq x (codes "unit")) (bytes_eq x (codes "bool")) refl refl (fits_of_token sort.TypeName (token.Name x) fit)
+type_atom (token.Number n) fit = absurd (let e = fits_of_token sort.TypeName (token.Number n) fit in cc)
+
+type_list : (parts : List Tree) → TypeOf (variant.List parts)
+type_list parts fit =
+    let one = held_list sort.TypeName (codes "bits") sort.Number one_bits parts fit in
+    let n = number_of one.0 one.2 in
+    (type.Bits n.0, (ap (λ t. form (codes "bits") (t ∷ [])) n.1 ∙ ap variant.List (sym one.1), refl))
+
+pub type_of : (t : Tree) → FitsSort sort.TypeName t → (ty : TypeName) × IsType t ty
+type_of = by_layer TypeOf type_atom type_list
+
+-- a name with its type
+param_from : (parts : List Tree) → HasParts (sort.Name ∷ sort.TypeName ∷ []) parts → (p : Param) × IsParam (variant.List parts) p
+param_from (n ∷ t ∷ []) h =
+    let x = name_of n h.fit.0 in let ty = type_of t h.fit.1.0 in
+    (record { name = x.0; ty = ty.0 }, (ap variant.List (same2 x.1.0 ty.1.0), both (is_name x.0) (is_formed_type ty.0) x.1.1 ty.1.1))
+param_from _ h = absurd (omega (arith, h.count))
+
+pub param_of : (t : Tree) → FitsSort sort.Param t → (p : Param) × IsParam t p
+param_of t fit =
+    let list = is_list sort.Param t (record { numbers = λ n. refl; names = λ x. refl }) fit in
+    let found = param_from list.0 (exact_place sort.Param (sort.Name ∷ sort.TypeName ∷ []) list.0 (λ found. refl) (subst (FitsSort sort.Param) list.1 fit)) in
+    subst (λ u. (p : Param) × IsParam u p) (sym list.1) found
+
+pub each_param_of : (trees : List Tree) → AllByRecursion (FitsSort sort.Param) trees → (ps : List Param) × AreParams trees ps
+each_param_of [] all = ([], (refl, refl))
+each_param_of (t ∷ trees) all =
+    let p = param_of t all.0 in let ps = each_param_of trees all.1 in
+    (p.0 ∷ ps.0, (same_first p.1.0 ps.1.0, both (is_formed_param p.0) (are_formed_params ps.0) p.1.1 ps.1.1))
+
+-- lists of parameters, of fields, of members
+pub params_of : (t : Tree) → FitsSort sort.Params t → (ps : List Param) × (tree_of_params ps ≡ t) × (are_formed_params ps ≡ true)
+params_of t fit =
+    let list = is_list sort.Params t (record { numbers = λ n. refl; names = λ x. refl }) fit in
+    let has = many_place sort.Params [] sort.Param list.0 (λ found. refl) (subst (FitsSort sort.Params) list.1 fit) in
+    let ps = each_param_of list.0 (rest_fits [] sort.Param (length list.0 - 0) list.0 has) in
+    (ps.0, ap variant.List ps.1.0 ∙ sym list.1, ps.1.1)
+
+pub fields_of : (t : Tree) → FitsSort sort.Fields t → (ps : List Param) × (tree_of_params ps ≡ t) × (is_some ps ≡ true) × (are_formed_params ps ≡ true)
+fields_of t fit =
+    let list = is_list sort.Fields t (record { numbers = λ n. refl; names = λ x. refl }) fit in
+    let has = many_place sort.Fields (sort.Param ∷ []) sort.Param list.0 (λ found. refl) (subst (FitsSort sort.Fields) list.1 fit) in
+    let ps = each_param_of list.0 (some_fit sort.Param (length list.0 - 1) list.0 has) in
+    (ps.0, ap variant.List ps.1.0 ∙ sym list.1,
+      some_made tree_of_param ps.0 list.0 ps.1.0 (length list.0 - 1) (omega (arith, has.count, length-replicate (length list.0 - 1) sort.Param)), ps.1.1)
+
+pub members_of : (t : Tree) → FitsSort sort.Members t → (xs : List (List ℕ)) × (variant.List (map word xs) ≡ t) × (is_some xs ≡ true) × (every (map is_name xs) ≡ true)
+members_of t fit =
+    let list = is_list sort.Members t (record { numbers = λ n. refl; names = λ x. refl }) fit in
+    let has = many_place sort.Members (sort.Name ∷ []) sort.Name list.0 (λ found. refl) (subst (FitsSort sort.Members) list.1 fit) in
+    let xs = names_of list.0 (some_fit sort.Name (length list.0 - 1) list.0 has) in
+    (xs.0, ap variant.List xs.1.0 ∙ sym list.1,
+      some_made word xs.0 list.0 xs.1.0 (length list.0 - 1) (omega (arith, has.count, length-replicate (length list.0 - 1) sort.Name)), xs.1.1)

@@ -96,6 +96,10 @@ case_tree arm = tree_of_case_arm (case_arm.map Stm Tree tree_of_stm arm)
 abbrev pub case_formed : CaseArm Stm → Bool
 case_formed arm = is_formed_case_arm (case_arm.map Stm Bool is_formed_stm arm)
 
+-- an arm `(A S)`
+abbrev pub IsCaseArm : Tree → CaseArm Stm → Type 0
+IsCaseArm tree arm = (case_tree arm ≡ tree) × (case_formed arm ≡ true)
+
 -- arms `(A S)`
 abbrev pub AreCaseArms : List Tree → List (CaseArm Stm) → Type 0
 AreCaseArms = AreForms case_tree case_formed
@@ -107,6 +111,10 @@ match_tree arm = tree_of_match_arm (match_arm.map Stm Tree tree_of_stm arm)
 -- whether an arm `(K x S)` has right form
 abbrev pub match_formed : MatchArm Stm → Bool
 match_formed arm = is_formed_match_arm (match_arm.map Stm Bool is_formed_stm arm)
+
+-- an arm `(K x S)`
+abbrev pub IsMatchArm : Tree → MatchArm Stm → Type 0
+IsMatchArm tree arm = (match_tree arm ≡ tree) × (match_formed arm ≡ true)
 
 -- arms `(K x S)`
 abbrev pub AreMatchArms : List Tree → List (MatchArm Stm) → Type 0

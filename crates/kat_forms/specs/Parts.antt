@@ -1,9 +1,12 @@
 -- What the parts of a list that fits are, sort by sort.
-use Rattle.std.specs.Prelude.{◌≡◌, ◌<◌, ◌≤◌, ◌^◌, ℕ, true, List, [], ◌∷◌, length}
+use Rattle.std.specs.Prelude.{◌≡◌, ◌<◌, ◌≤◌, ℕ, true, List, [], ◌∷◌, length}
+use Rattle.std.specs.List.{AllByRecursion}
 use Rattle.kat_tree.specs.declared.tree.Tree.{Tree}
+use Rattle.kat_tree.specs.declared.tree.Tree.TheVariants as variant
 use Rattle.kat_tree.specs.Lexeme.{nesting}
 use Rattle.kat_tree.specs.Preorder.{count_of}
 use Rattle.kat_tree.specs.Written.{IsWritable}
+use Rattle.kat_ast.specs.Limits.{deepest_decl, decl_trees_bound}
 use Rattle.kat_ast.specs.Parts.{word, form}
 use Rattle.kat_shapes.specs.declared.sort.Sort.{Sort}
 use Rattle.kat_shapes.specs.Fits.{fits}
@@ -35,9 +38,14 @@ pub record IsHolder (tree : Tree) : Type 0 where
   pub part : Tree
   pub is : tree ≡ form head (part ∷ [])
 
--- a tree that stands directly in the root of a text: it can be written, nests at most 63 brackets and has fewer than
--- 2^32 trees
+-- a tree that stands directly in the root of a text: it can be written, and it nests no deeper and has no more trees than a
+-- declaration may
 pub record IsPartOfText (tree : Tree) : Type 0 where
   pub writable : IsWritable tree
-  pub nesting : nesting tree ≤ 63
-  pub small : count_of tree < 2 ^ 32
+  pub nesting : nesting tree ≤ deepest_decl
+  pub small : count_of tree < decl_trees_bound
+
+-- the tree of a text: it can be written, and each tree directly in its root has no more trees than a declaration may
+pub record IsText (tree : Tree) : Type 0 where
+  pub writable : IsWritable tree
+  pub small : (parts : List Tree) → tree ≡ variant.List parts → AllByRecursion (λ (part : Tree). count_of part < decl_trees_bound) parts

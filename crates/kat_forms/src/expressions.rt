@@ -1,14 +1,12 @@
 //! Expressions.
 
-ghost use Rattle.std.specs.Prelude.{◌≡◌, ◌-◌, ◌++◌, true, None, [], ◌∷◌, IfOk, length, map, replicate, take, codes};
+ghost use Rattle.std.specs.Prelude.{◌≡◌, ◌-◌, true, None, [], ◌∷◌, IfOk, length, map, replicate, take, codes};
 ghost use Rattle.std.specs.List.{AllByRecursion};
 ghost use Rattle.kat_tree.specs.declared.tree.Tree.TheVariants as variant;
-ghost use Rattle.kat_value.specs.Words.{arity_of, word_of_op};
-ghost use Rattle.kat_ast.specs.Parts.{is_name, word, number, form};
-ghost use Rattle.kat_ast.specs.Expressions.{is_formed_expr, are_formed_exprs, numbers_before, tree_of_expr};
+ghost use Rattle.kat_ast.specs.Parts.{is_name, word, form};
+ghost use Rattle.kat_ast.specs.Expressions.{is_formed_expr, are_formed_exprs, tree_of_expr};
 ghost use Rattle.kat_shapes.specs.Forms.{expressions, row_of};
 ghost use Rattle.kat_forms.specs.Parts.{FitsSort, HasParts};
-ghost use Rattle.kat_forms.specs.Operations.{bare_operations};
 ghost use Rattle.kat_forms.specs.Forms.{IsExpr, AreExprs};
 
 use crate::atoms::{name_in, number_in, only_name, only_number, split};
@@ -16,6 +14,7 @@ use kat_ast::{Expr, Op};
 use kat_shapes::Sort;
 use kat_text::Text;
 use kat_tree::{Token, Tree};
+use kat_value::op_of_word;
 use sqlite_items::{Boxed, Items};
 use std::alloc::{AllocError, Global};
 
@@ -267,40 +266,11 @@ fn operation_in(alloc: Global, word: &str, parts: &[Tree]) -> Result<Expr, Alloc
     requires none { row_of (take 15 expressions) word.now ≡ None }
     ensures { IfOk result (λ e. IsExpr (form word.now parts.now) e) }
 {
-    let Some(op) = bare_operation(word) else {
+    let Some(op) = op_of_word(word) else {
         unreachable!();
     };
     let args = exprs_in(alloc, parts)?;
     Ok(Expr::Apply { op, args })
-}
-
-/// The operation that is written by a word with its arguments alone.
-fn bare_operation(word: &str) -> Option<Op>
-    ensures { result ≡ row_of bare_operations word.now }
-{
-    match word {
-        "not" => Some(Op::Not),
-        "and" => Some(Op::And),
-        "or" => Some(Op::Or),
-        "eq" => Some(Op::Eq),
-        "ult" => Some(Op::Ult),
-        "ule" => Some(Op::Ule),
-        "slt" => Some(Op::Slt),
-        "sle" => Some(Op::Sle),
-        "add" => Some(Op::Add),
-        "sub" => Some(Op::Sub),
-        "mul" => Some(Op::Mul),
-        "band" => Some(Op::Band),
-        "bor" => Some(Op::Bor),
-        "bxor" => Some(Op::Bxor),
-        "bnot" => Some(Op::Bnot),
-        "shl" => Some(Op::Shl),
-        "shr" => Some(Op::Shr),
-        "sar" => Some(Op::Sar),
-        "cat" => Some(Op::Cat),
-        "ite" => Some(Op::Ite),
-        _ => None,
-    }
 }
 
 /// One expression alone.

@@ -1,12 +1,13 @@
 //! Specifications, and declarations by themselves.
 
-ghost use Rattle.std.specs.Prelude.{◌≡◌, ◌<◌, ◌^◌, List, map, IfOk, IfErr, MatchResult};
+ghost use Rattle.std.specs.Prelude.{◌≡◌, ◌<◌, List, map, IfOk, IfErr, MatchResult};
 ghost use Rattle.std.specs.List.{AllByRecursion};
 ghost use Rattle.kat_tree.specs.declared.tree.Tree.{Tree};
 ghost use Rattle.kat_tree.specs.declared.tree.Tree.TheVariants as variant;
 ghost use Rattle.kat_tree.specs.Preorder.{count_of};
 ghost use Rattle.kat_tree.specs.Written.{IsWritable};
 ghost use Rattle.kat_ast.specs.declared.decl.DeclForm.{DeclForm};
+ghost use Rattle.kat_ast.specs.Limits.{decl_trees_bound};
 ghost use Rattle.kat_ast.specs.Spec.{Spec};
 ghost use Rattle.kat_ast.specs.Declarations.{tree_of_decl, IsDecl};
 ghost use Rattle.kat_ast.specs.Specifications.{Describes};
@@ -19,7 +20,7 @@ use crate::declarations::decl_in;
 use crate::error::FormError;
 use crate::laws::written_fits;
 use kat_ast::{Decl, Spec, one_form};
-use kat_shapes::{Sort, judge, one_judgement};
+use kat_shapes::{Misfit, Sort, judge, one_judgement};
 use kat_tree::{Tree, written_layers};
 use sqlite_items::Items;
 use std::alloc::{AllocError, Global};
@@ -31,7 +32,7 @@ use std::alloc::{AllocError, Global};
 pub fn read_spec(alloc: Global, tree: &Tree) -> Result<Spec, FormError>
     requires text { IsWritable tree.now }
     requires small { (parts : List Tree) → tree.now ≡ variant.List parts →
-        AllByRecursion (λ (part : Tree). count_of part < 2 ^ 32) parts }
+        AllByRecursion (λ (part : Tree). count_of part < decl_trees_bound) parts }
 
     // What is read is what the tree describes.
     ensures found { IfOk result (λ spec. Describes tree.now spec) }
@@ -80,10 +81,7 @@ fn judged_spec(alloc: Global, tree: &Tree) -> Result<Spec, FormError>
 {
     match judge(tree, Sort::Spec) {
         Ok(()) => Ok(spec_in(alloc, tree)?),
-        Err(misfit) => Err(FormError::Wanted {
-            place: misfit.place,
-            wanted: misfit.wanted,
-        }),
+        Err(misfit) => Err(refusal(misfit)),
     }
 }
 
@@ -96,10 +94,17 @@ fn judged_decl(alloc: Global, tree: &Tree) -> Result<Decl, FormError>
 {
     match judge(tree, Sort::Declaration) {
         Ok(()) => Ok(whole_decl_in(alloc, tree)?),
-        Err(misfit) => Err(FormError::Wanted {
-            place: misfit.place,
-            wanted: misfit.wanted,
-        }),
+        Err(misfit) => Err(refusal(misfit)),
+    }
+}
+
+/// The refusal that names a misfit.
+fn refusal(misfit: Misfit) -> FormError
+    ensures { result ≡ FormError.Wanted misfit.place misfit.wanted }
+{
+    FormError::Wanted {
+        place: misfit.place,
+        wanted: misfit.wanted,
     }
 }
 
