@@ -19,7 +19,6 @@ use Rattle.kat_ast.specs.declared.type_name.TypeName.{TypeName}
 use Rattle.kat_ast.specs.declared.assertion.Assertion.TheVariants as made
 use Rattle.kat_ast.specs.declared.assertion.Assertion.TheVariants.{rolls-Pure, rolls-Register, rolls-Cell, rolls-Star, rolls-If, rolls-Exists, rolls-Predicate, rolls-Region}
 use Rattle.kat_ast.specs.declared.assertion.Assertion.TheOpen as layer
-use Rattle.kat_ast.specs.declared.assertion.Assertion.TheOpen as assertion
 use Rattle.kat_ast.specs.declared.assertion.Assertion.TheFolds.{map-Assertion, fold-roll-Assertion, ind-Assertion}
 use Rattle.kat_ast.specs.Parts.{word, form, is_name, every}
 use Rattle.kat_ast.specs.Types.{tree_of_type, tree_of_param, is_formed_type, is_formed_param}
@@ -93,22 +92,22 @@ fitting_assertions : (as_ : List ((a : Assertion) × AssertionFits a)) → every
 fitting_assertions [] f = tt
 fitting_assertions (a ∷ more) f = let h = apart (is_formed_assertion a.0) (every (map is_formed_assertion (map (λ a. a.0) more))) f in (a.1 h.0, fitting_assertions more h.1)
 
-assertion_layer : (y : assertion.Assertion-F ((a : Assertion) × AssertionFits a)) →
+assertion_layer : (y : layer.Assertion-F ((a : Assertion) × AssertionFits a)) →
     assertion_formed (map-Assertion Assertion Bool is_formed_assertion (map-Assertion ((a : Assertion) × AssertionFits a) Assertion (λ a. a.0) y)) ≡ true →
     fits sort.Assertion (assertion_tree (map-Assertion Assertion Tree tree_of_assertion (map-Assertion ((a : Assertion) × AssertionFits a) Assertion (λ a. a.0) y))) ≡ true
-assertion_layer (assertion.Pure e) f = form_fits sort.Assertion (codes "pure") _ _ (sort.Expression ∷ []) refl refl (expr_fits e f, tt)
-assertion_layer (assertion.Register r e) f = let h = apart (is_name r) (is_formed_expr e) f in
+assertion_layer (layer.Pure e) f = form_fits sort.Assertion (codes "pure") _ _ (sort.Expression ∷ []) refl refl (expr_fits e f, tt)
+assertion_layer (layer.Register r e) f = let h = apart (is_name r) (is_formed_expr e) f in
     form_fits sort.Assertion (codes "reg") _ _ (sort.Name ∷ sort.Expression ∷ []) refl refl (name_fits r h.0, (expr_fits e h.1, tt))
-assertion_layer (assertion.Cell i e) f = let h = apart (is_formed_expr i) (is_formed_expr e) f in
+assertion_layer (layer.Cell i e) f = let h = apart (is_formed_expr i) (is_formed_expr e) f in
     form_fits sort.Assertion (codes "cell") _ _ (sort.Expression ∷ sort.Expression ∷ []) refl refl (expr_fits i h.0, (expr_fits e h.1, tt))
-assertion_layer (assertion.Star parts) f = only_many sort.Assertion sort.Assertion (codes "star") _ refl (fitting_assertions parts f)
-assertion_layer (assertion.If e a b) f = let h = apart (is_formed_expr e) (is_formed_assertion a.0 && is_formed_assertion b.0) f in let i = apart (is_formed_assertion a.0) (is_formed_assertion b.0) h.1 in
+assertion_layer (layer.Star parts) f = only_many sort.Assertion sort.Assertion (codes "star") _ refl (fitting_assertions parts f)
+assertion_layer (layer.If e a b) f = let h = apart (is_formed_expr e) (is_formed_assertion a.0 && is_formed_assertion b.0) f in let i = apart (is_formed_assertion a.0) (is_formed_assertion b.0) h.1 in
     form_fits sort.Assertion (codes "if") _ _ (sort.Expression ∷ sort.Assertion ∷ sort.Assertion ∷ []) refl refl (expr_fits e h.0, (a.1 i.0, (b.1 i.1, tt)))
-assertion_layer (assertion.Exists x t body) f = let h = apart (is_name x) (is_formed_type t && is_formed_assertion body.0) f in let i = apart (is_formed_type t) (is_formed_assertion body.0) h.1 in
+assertion_layer (layer.Exists x t body) f = let h = apart (is_name x) (is_formed_type t && is_formed_assertion body.0) f in let i = apart (is_formed_type t) (is_formed_assertion body.0) h.1 in
     form_fits sort.Assertion (codes "exists") _ _ (sort.Param ∷ sort.Assertion ∷ []) refl refl
     (place_fits sort.Param (word x ∷ tree_of_type t ∷ []) (exactly (sort.Name ∷ sort.TypeName ∷ [])) (sort.Name ∷ sort.TypeName ∷ []) (λ found. refl) refl (name_fits x h.0, (type_fits t i.0, tt)), (body.1 i.1, tt))
-assertion_layer (assertion.Predicate p args) f = let h = apart (is_name p) (are_formed_exprs args) f in named_many sort.Assertion sort.Expression (codes "pred") p (map tree_of_expr args) refl h.0 (exprs_fit args h.1)
-assertion_layer (assertion.Region g args) f = let h = apart (is_name g) (are_formed_exprs args) f in named_many sort.Assertion sort.Expression (codes "region") g (map tree_of_expr args) refl h.0 (exprs_fit args h.1)
+assertion_layer (layer.Predicate p args) f = let h = apart (is_name p) (are_formed_exprs args) f in named_many sort.Assertion sort.Expression (codes "pred") p (map tree_of_expr args) refl h.0 (exprs_fit args h.1)
+assertion_layer (layer.Region g args) f = let h = apart (is_name g) (are_formed_exprs args) f in named_many sort.Assertion sort.Expression (codes "region") g (map tree_of_expr args) refl h.0 (exprs_fit args h.1)
 
 pub assertion_fits : (a : Assertion) → is_formed_assertion a ≡ true → fits sort.Assertion (tree_of_assertion a) ≡ true
 assertion_fits = ind-Assertion AssertionFits (λ x y is f.

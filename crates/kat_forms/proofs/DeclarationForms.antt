@@ -264,14 +264,14 @@ phase_of = by_layer PhaseOf phase_atom phase_list
 -- the one part of a small list
 held_in : (s : Sort) (w : List ℕ) (inner : Sort) (tree : Tree) → HoldsOne s w inner → HasNoAtoms s → FitsSort s tree →
     (part : Tree) × (form w (part ∷ []) ≡ tree) × FitsSort inner part
-held_in s w inner tree has no fit =
-    let list = is_list s tree no fit in
+held_in s w inner tree has lacks fit =
+    let list = is_list s tree lacks fit in
     let one = held_list s w inner has list.0 (subst (FitsSort s) list.1 fit) in
     (one.0, sym (list.1 ∙ ap variant.List one.1), one.2)
 
 holding_of : (s : Sort) (w : List ℕ) (tree : Tree) → HoldsOne s w sort.Assertion → HasNoAtoms s → FitsSort s tree → (a : Assertion) × IsHolding w tree a
-holding_of s w tree has no fit =
-    let part = held_in s w sort.Assertion tree has no fit in let a = assertion_of part.0 part.2 in
+holding_of s w tree has lacks fit =
+    let part = held_in s w sort.Assertion tree has lacks fit in let a = assertion_of part.0 part.2 in
     (a.0, (ap (λ t. form w (t ∷ [])) a.1.0 ∙ part.1, a.1.1))
 
 -- a case of a dispatch, and steps

@@ -22,7 +22,6 @@ use Rattle.kat_ast.specs.declared.expr.Expr.{Expr}
 use Rattle.kat_ast.specs.declared.expr.Expr.TheVariants as made
 use Rattle.kat_ast.specs.declared.expr.Expr.TheVariants.{rolls-Name, rolls-Unit, rolls-Truth, rolls-Bits, rolls-Of, rolls-Make, rolls-Rec, rolls-Register, rolls-Kept, rolls-KeptCell, rolls-Before, rolls-After, rolls-BeforeCell, rolls-AfterCell, rolls-Apply, rolls-Get}
 use Rattle.kat_ast.specs.declared.expr.Expr.TheOpen as layer
-use Rattle.kat_ast.specs.declared.expr.Expr.TheOpen as expr
 use Rattle.kat_ast.specs.declared.expr.Expr.TheFolds.{map-Expr, fold-roll-Expr, ind-Expr}
 use Rattle.kat_value.specs.Words.{word_of_op, op_among, op_of_word, written_ops}
 use Rattle.kat_ast.specs.Parts.{word, number, form}
@@ -176,7 +175,7 @@ bare_found w o no_value found = found_holds BareUnlessValue (rows written_ops) w
 -- a word that no row has, though the rows have each word of other rows, is not theirs
 none_by : {A B : Type 0} (as_ : Rows A) (b : List ℕ × B) (bs : Rows B) (w : List ℕ) (t : Bool) → bytes_eq w b.0 ≡ t → IsSome (row_of as_ b.0) → row_of as_ w ≡ None →
     row_of bs w ≡ None → (if t then Some b.1 else row_of bs w) ≡ None
-none_by as_ b bs w true e some none rest = absurd (subst IsSome (ap (row_of as_) (sym ((bytes_eq-Decides w b.0).0 e)) ∙ none) some)
+none_by as_ b bs w true e some none rest = absurd (let h = subst IsSome (ap (row_of as_) (sym ((bytes_eq-Decides w b.0).0 e)) ∙ none) some in cc)
 none_by as_ b bs w false e some none rest = rest
 
 none_either : {A B : Type 0} (as_ : Rows A) (bs : Rows B) (w : List ℕ) → AllByRecursion (λ (b : List ℕ × B). IsSome (row_of as_ b.0)) bs → row_of as_ w ≡ None → row_of bs w ≡ None
@@ -197,18 +196,18 @@ pub no_row : (w : List ℕ) → IsNoValue w → op_of_word w ≡ None → row_of
 no_row w no_value none =
     row_behind (take 15 expressions) (drop 15 expressions) w no_value
     ∙ none_either (rows written_ops) (drop 15 expressions) w
-    (tt, (tt, (tt, (tt, (tt, (tt, (tt, (tt, (tt, (tt, (tt, (tt, (tt, (tt, (tt, (tt, (tt, (tt, (tt, (tt, tt)))))))))))))))))))) (sym (among_rows written_ops w) ∙ none)
+    (refl, (refl, (refl, (refl, (refl, (refl, (refl, (refl, (refl, (refl, (refl, (refl, (refl, (refl, (refl, (refl, (refl, (refl, (refl, (refl, tt)))))))))))))))))))) (sym (among_rows written_ops w) ∙ none)
 
 -- and so its parts are those of the operation
 pub row_wanted : (w : List ℕ) (parts : List Tree) → row_of expressions w ≡ None → FitsSort sort.Expression (form w parts) → ⊥
 row_wanted w parts none fit = no_form sort.Expression w parts (ap (option_and_then (form_in newest)) none) fit
 
 -- an operation with its arguments alone
-plain_fits : (o : Op) (trees : List Tree) → form_of newest sort.Expression (Some (word_of_op o)) ≡ Some (exactly (sort.Word ∷ arguments (arity_of o))) →
+plain_fits : (o : Op) (trees : List Tree) → form_of newest sort.Expression (Some (word_of_op o)) ≡ Some (exactly (sort.Word ∷ replicate (arity_of o) sort.Expression)) →
     length trees ≡ arity_of o → AllByRecursion (FitsSort sort.Expression) trees → fits sort.Expression (form (word_of_op o) trees) ≡ true
 plain_fits o trees shaped count all =
-    form_fits sort.Expression (word_of_op o) trees (exactly (sort.Word ∷ arguments (arity_of o))) (arguments (arity_of o)) shaped
-    (exactly_sorts (sort.Word ∷ arguments (arity_of o)) (length trees + 1) (let e : length (arguments (arity_of o)) ≡ arity_of o = length-replicate (arity_of o) sort.Expression in omega arith))
+    form_fits sort.Expression (word_of_op o) trees (exactly (sort.Word ∷ replicate (arity_of o) sort.Expression)) (replicate (arity_of o) sort.Expression) shaped
+    (exactly_sorts (sort.Word ∷ replicate (arity_of o) sort.Expression) (length trees + 1) (let e : length (replicate (arity_of o) sort.Expression) ≡ arity_of o = length-replicate (arity_of o) sort.Expression in omega arith))
     (subst (λ n. AllFit (replicate n sort.Expression) trees) count (all_of_one sort.Expression trees all))
 
 one_tree : (trees : List Tree) → length trees ≡ 1 → AllByRecursion (FitsSort sort.Expression) trees → (t : Tree) × (trees ≡ t ∷ []) × (fits sort.Expression t ≡ true)
@@ -227,6 +226,19 @@ op_fits (op.Sext w) trees written count all = let one = one_tree trees count all
 op_fits (op.Get r f) trees written count all = absurd (cc)
 op_fits o trees written count all = plain_fits o trees refl count all
 
+-- the arguments of an operation
+pub arguments_fit : (w : List ℕ) (o : Op) (parts : List Tree) → IsNoValue w → op_of_word w ≡ Some o → FitsSort sort.Expression (form w parts) →
+    HasParts (replicate (arity_of o) sort.Expression) parts
+arguments_fit w o parts no_value found fit =
+    exact_parts sort.Expression w (replicate (arity_of o) sort.Expression) parts (bare_found w o no_value found).formed fit
+
+pub operation_is : (w : List ℕ) (o : Op) (parts : List Tree) (es : List Expr) → IsNoValue w → op_of_word w ≡ Some o → FitsSort sort.Expression (form w parts) →
+    AreExprs parts es → IsExpr (form w parts) (made.Apply o es)
+operation_is w o parts es no_value found fit are =
+    let bare = bare_found w o no_value found in
+    let h = arguments_fit w o parts no_value found fit in
+    Apply-is o es w parts parts bare.word_is bare.written (h.count ∙ length-replicate (arity_of o) sort.Expression) are.0 are.1 (ap (λ ns. ns ++ parts) bare.alone)
+
 -- an expression of right form fits
 abbrev ExprFits : Expr → Type 0
 ExprFits e = is_formed_expr e ≡ true → fits sort.Expression (tree_of_expr e) ≡ true
@@ -235,35 +247,35 @@ fitting_exprs : (es : List ((e : Expr) × ExprFits e)) → every (map is_formed_
 fitting_exprs [] f = tt
 fitting_exprs (e ∷ es) f = let h = apart (is_formed_expr e.0) (every (map is_formed_expr (map (λ e. e.0) es))) f in (e.1 h.0, fitting_exprs es h.1)
 
-expr_layer : (y : expr.Expr-F ((e : Expr) × ExprFits e)) →
+expr_layer : (y : layer.Expr-F ((e : Expr) × ExprFits e)) →
     expr_formed (map-Expr Expr Bool is_formed_expr (map-Expr ((e : Expr) × ExprFits e) Expr (λ e. e.0) y)) ≡ true →
     fits sort.Expression (expr_tree (map-Expr Expr Tree tree_of_expr (map-Expr ((e : Expr) × ExprFits e) Expr (λ e. e.0) y))) ≡ true
-expr_layer (expr.Name x) f = token_fits sort.Expression (token.Name x) refl
-expr_layer expr.Unit f = token_fits sort.Expression (token.Name (codes "unit")) refl
-expr_layer (expr.Truth true) f = token_fits sort.Expression (token.Name (codes "true")) refl
-expr_layer (expr.Truth false) f = token_fits sort.Expression (token.Name (codes "false")) refl
-expr_layer (expr.Bits w n) f = form_fits sort.Expression (codes "bits") _ _ (sort.Number ∷ sort.Number ∷ []) refl refl (number_fits w, (number_fits n, tt))
-expr_layer (expr.Of e a) f = let h = apart (is_name e) (is_name a) f in
+expr_layer (layer.Name x) f = token_fits sort.Expression (token.Name x) refl
+expr_layer layer.Unit f = token_fits sort.Expression (token.Name (codes "unit")) refl
+expr_layer (layer.Truth true) f = token_fits sort.Expression (token.Name (codes "true")) refl
+expr_layer (layer.Truth false) f = token_fits sort.Expression (token.Name (codes "false")) refl
+expr_layer (layer.Bits w n) f = form_fits sort.Expression (codes "bits") _ _ (sort.Number ∷ sort.Number ∷ []) refl refl (number_fits w, (number_fits n, tt))
+expr_layer (layer.Of e a) f = let h = apart (is_name e) (is_name a) f in
     form_fits sort.Expression (codes "of") _ _ (sort.Name ∷ sort.Name ∷ []) refl refl (name_fits e h.0, (name_fits a h.1, tt))
-expr_layer (expr.Make k p) f = let h = apart (is_name k) (is_formed_expr p.0) f in
+expr_layer (layer.Make k p) f = let h = apart (is_name k) (is_formed_expr p.0) f in
     form_fits sort.Expression (codes "make") _ _ (sort.Name ∷ sort.Expression ∷ []) refl refl (name_fits k h.0, (p.1 h.1, tt))
-expr_layer (expr.Rec r fields) f = let h = apart (is_name r) (every (map is_formed_expr (map (λ e. e.0) fields))) f in
+expr_layer (layer.Rec r fields) f = let h = apart (is_name r) (every (map is_formed_expr (map (λ e. e.0) fields))) f in
     named_many sort.Expression sort.Expression (codes "rec") r (map tree_of_expr (map (λ e. e.0) fields)) refl h.0 (fitting_exprs fields h.1)
-expr_layer (expr.Register r) f = form_fits sort.Expression (codes "reg") _ _ (sort.Name ∷ []) refl refl (name_fits r f, tt)
-expr_layer (expr.Kept r) f = form_fits sort.Expression (codes "kept") _ _ (sort.Name ∷ []) refl refl (name_fits r f, tt)
-expr_layer (expr.Before r) f = form_fits sort.Expression (codes "before") _ _ (sort.Name ∷ []) refl refl (name_fits r f, tt)
-expr_layer (expr.After r) f = form_fits sort.Expression (codes "after") _ _ (sort.Name ∷ []) refl refl (name_fits r f, tt)
-expr_layer (expr.KeptCell i) f = form_fits sort.Expression (codes "kept_cell") _ _ (sort.Number ∷ []) refl refl (number_fits i, tt)
-expr_layer (expr.BeforeCell i) f = form_fits sort.Expression (codes "before_cell") _ _ (sort.Number ∷ []) refl refl (number_fits i, tt)
-expr_layer (expr.AfterCell i) f = form_fits sort.Expression (codes "after_cell") _ _ (sort.Number ∷ []) refl refl (number_fits i, tt)
-expr_layer (expr.Apply o args) f =
+expr_layer (layer.Register r) f = form_fits sort.Expression (codes "reg") _ _ (sort.Name ∷ []) refl refl (name_fits r f, tt)
+expr_layer (layer.Kept r) f = form_fits sort.Expression (codes "kept") _ _ (sort.Name ∷ []) refl refl (name_fits r f, tt)
+expr_layer (layer.Before r) f = form_fits sort.Expression (codes "before") _ _ (sort.Name ∷ []) refl refl (name_fits r f, tt)
+expr_layer (layer.After r) f = form_fits sort.Expression (codes "after") _ _ (sort.Name ∷ []) refl refl (name_fits r f, tt)
+expr_layer (layer.KeptCell i) f = form_fits sort.Expression (codes "kept_cell") _ _ (sort.Number ∷ []) refl refl (number_fits i, tt)
+expr_layer (layer.BeforeCell i) f = form_fits sort.Expression (codes "before_cell") _ _ (sort.Number ∷ []) refl refl (number_fits i, tt)
+expr_layer (layer.AfterCell i) f = form_fits sort.Expression (codes "after_cell") _ _ (sort.Number ∷ []) refl refl (number_fits i, tt)
+expr_layer (layer.Apply o args) f =
     let trees = map tree_of_expr (map (λ e. e.0) args) in
     let written = apart (is_written o) _ f in
     let counted = apart (length (map is_formed_expr (map (λ (e : (e : Expr) × ExprFits e). e.0) args)) == arity_of o) (every (map is_formed_expr (map (λ e. e.0) args))) written.1 in
     op_fits o trees written.0
     (let a = eqb-true _ _ counted.0 in let b = length-map (map (λ (e : (e : Expr) × ExprFits e). e.0) args) is_formed_expr in let c = length-map (map (λ (e : (e : Expr) × ExprFits e). e.0) args) tree_of_expr in omega arith)
     (fitting_exprs args counted.1)
-expr_layer (expr.Get r f value) g = let h = apart (is_name r) (is_name f && is_formed_expr value.0) g in let i = apart (is_name f) (is_formed_expr value.0) h.1 in
+expr_layer (layer.Get r f value) g = let h = apart (is_name r) (is_name f && is_formed_expr value.0) g in let i = apart (is_name f) (is_formed_expr value.0) h.1 in
     form_fits sort.Expression (codes "get") _ _ (sort.Name ∷ sort.Name ∷ sort.Expression ∷ []) refl refl (name_fits r h.0, (name_fits f i.0, (value.1 i.1, tt)))
 
 pub expr_fits : (e : Expr) → is_formed_expr e ≡ true → fits sort.Expression (tree_of_expr e) ≡ true
@@ -436,9 +448,9 @@ list_rows = (
     (λ ps fit. rec-from ps (many_parts sort.Expression (codes "rec") (sort.Name ∷ []) sort.Expression (trees ps) refl fit),
     (λ ps fit. register-from ps (exact_parts sort.Expression (codes "reg") (sort.Name ∷ []) (trees ps) refl fit),
     (λ ps fit. kept-from ps (exact_parts sort.Expression (codes "kept") (sort.Name ∷ []) (trees ps) refl fit),
+    (λ ps fit. keptCell-from ps (exact_parts sort.Expression (codes "kept_cell") (sort.Number ∷ []) (trees ps) refl fit),
     (λ ps fit. before-from ps (exact_parts sort.Expression (codes "before") (sort.Name ∷ []) (trees ps) refl fit),
     (λ ps fit. after-from ps (exact_parts sort.Expression (codes "after") (sort.Name ∷ []) (trees ps) refl fit),
-    (λ ps fit. keptCell-from ps (exact_parts sort.Expression (codes "kept_cell") (sort.Number ∷ []) (trees ps) refl fit),
     (λ ps fit. beforeCell-from ps (exact_parts sort.Expression (codes "before_cell") (sort.Number ∷ []) (trees ps) refl fit),
     (λ ps fit. afterCell-from ps (exact_parts sort.Expression (codes "after_cell") (sort.Number ∷ []) (trees ps) refl fit),
     (λ ps fit. get-from ps (exact_parts sort.Expression (codes "get") (sort.Name ∷ sort.Name ∷ sort.Expression ∷ []) (trees ps) refl fit),

@@ -20,7 +20,7 @@ use Rattle.kat_shapes.specs.declared.sort.Sort.{Sort}
 use Rattle.kat_shapes.specs.declared.sort.Sort.TheVariants as sort
 use Rattle.kat_shapes.specs.Forms.{Form, Rows, exactly, many, between, row_of, forms_of, form_in, form_of_word, form_of, middles, sorts_of, sorts_for, fits_token, newest}
 use Rattle.kat_shapes.specs.Fits.{Judged, first_word, all_fit, list_fits, judged_layer, judged}
-use Rattle.kat_forms.specs.Parts.{FitsSort, AllFit, HasParts, IsHeaded, IsHolder}
+use Rattle.kat_forms.specs.Parts.{FitsSort, AllFit, HasParts, IsHeaded, IsHeadedList, IsHolder}
 use Rattle.kat_forms.proofs.Lists.{At, left_true, right_true, same_parts}
 
 judged-Atom : (t : Token) → judged (variant.Atom t) ≡ judged_layer newest (Tree-F.Atom t)
@@ -189,6 +189,10 @@ many_place s first more parts formed fit =
     let long = long_sorts first more (length parts - length first) (length parts) (let e = found.0 in omega arith) in
     record { count = long; fit = all_from (first ++ replicate (length parts - length first) more) parts long found.1 }
 
+-- a list that begins with a word, where the word is known
+pub arm_fits : (s : Sort) (w x : List ℕ) (behind parts : List Tree) → word x ∷ behind ≡ parts → x ≡ w → FitsSort s (variant.List parts) → FitsSort s (form w behind)
+arm_fits s w x behind parts same is fit = subst (FitsSort s) (ap variant.List (sym same) ∙ ap (λ v. form v behind) is) fit
+
 -- the part at a place
 all_at : (sorts : List Sort) (parts : List Tree) (i : ℕ) (part : Tree) → AllFit sorts parts → i < length sorts → At parts i part → FitsSort (get_or sorts i sort.Word) part
 all_at [] parts i part fit within at = absurd (omega arith)
@@ -327,17 +331,17 @@ pub record HasNoAtoms (s : Sort) : Type 0 where
   pub names : (x : List ℕ) → fits_token newest s (token.Name x) ≡ false
 
 pub no_atom : (s : Sort) (t : Token) → HasNoAtoms s → FitsSort s (variant.Atom t) → ⊥
-no_atom s (token.Number n) no fit = let e = fits_of_token s (token.Number n) fit in let f = no.numbers n in absurd (cc)
-no_atom s (token.Name x) no fit = let e = fits_of_token s (token.Name x) fit in let f = no.names x in absurd (cc)
+no_atom s (token.Number n) lacks fit = let e = fits_of_token s (token.Number n) fit in let f = lacks.numbers n in absurd (cc)
+no_atom s (token.Name x) lacks fit = let e = fits_of_token s (token.Name x) fit in let f = lacks.names x in absurd (cc)
 
 list_layer : (s : Sort) (y : Tree-F Tree) → HasNoAtoms s → FitsSort s (roll-Tree y) → (parts : List Tree) × (roll-Tree y ≡ variant.List parts)
-list_layer s (Tree-F.Atom t) no fit = absurd (no_atom s t no (subst (FitsSort s) (rolls-Atom t) fit))
-list_layer s (Tree-F.List parts) no fit = (parts, rolls-List parts)
+list_layer s (Tree-F.Atom t) lacks fit = absurd (no_atom s t lacks (subst (FitsSort s) (rolls-Atom t) fit))
+list_layer s (Tree-F.List parts) lacks fit = (parts, rolls-List parts)
 
 -- it is a list
 pub is_list : (s : Sort) (tree : Tree) → HasNoAtoms s → FitsSort s tree → (parts : List Tree) × (tree ≡ variant.List parts)
-is_list s tree no fit =
-    let found = list_layer s (out-Tree tree) no (subst (FitsSort s) (sym (roll-out-Tree tree)) fit) in
+is_list s tree lacks fit =
+    let found = list_layer s (out-Tree tree) lacks (subst (FitsSort s) (sym (roll-out-Tree tree)) fit) in
     (found.0, sym (roll-out-Tree tree) ∙ found.1)
 
 pub list_holder : (s : Sort) (w : List ℕ) (inner : Sort) (tree : Tree) (parts : List Tree) → HoldsOne s w inner → tree ≡ variant.List parts → FitsSort s tree → IsHolder tree
@@ -345,10 +349,24 @@ list_holder s w inner tree parts has is fit =
     let one = held_list s w inner has parts (subst (FitsSort s) is fit) in
     record { head = w; part = one.0; is = is ∙ ap variant.List one.1 }
 
+-- a list that begins with the word of its sort
+pub headed_list : (s : Sort) (w : List ℕ) (f : Form) (tree : Tree) → HasOneForm s w f → HasNoAtoms s → FitsSort s tree → IsHeadedList tree
+headed_list s w f tree has lacks fit =
+    let list = is_list s tree lacks fit in
+    let one = one_form s w f has list.0 (subst (FitsSort s) list.1 fit) in
+    record { head = w; behind = one.0; is = list.1 ∙ ap variant.List one.1 }
+
+pub list_parts : (s : Sort) (w : List ℕ) (f : Form) (x : List ℕ) (tree : Tree) (parts : List Tree) → HasOneForm s w f → tree ≡ form x parts → FitsSort s tree →
+    (form w parts ≡ tree) × FitsSort s (form w parts)
+list_parts s w f x tree parts has is fit =
+    let fits = subst (FitsSort s) is fit in
+    let same = one_word s w f has x parts fits in
+    (sym (is ∙ ap (λ v. form v parts) same), subst (λ v. FitsSort s (form v parts)) same fits)
+
 -- a list of a word and one part
 pub holder : (s : Sort) (w : List ℕ) (inner : Sort) (tree : Tree) → HoldsOne s w inner → HasNoAtoms s → FitsSort s tree → IsHolder tree
-holder s w inner tree has no fit =
-    let list = is_list s tree no fit in
+holder s w inner tree has lacks fit =
+    let list = is_list s tree lacks fit in
     let one = held_list s w inner has list.0 (subst (FitsSort s) list.1 fit) in
     record { head = w; part = one.0; is = list.1 ∙ ap variant.List one.1 }
 

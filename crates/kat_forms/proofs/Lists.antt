@@ -1,6 +1,7 @@
 -- Lists part by part: the parts that stand in one, and what was made of those before a position.
-use Rattle.std.proofs.Common.{◌≡◌, ℕ, zero, suc, Bool, ◌&&◌, ◌+◌, ◌-◌, ◌<◌, ◌≤◌, List, [], ◌∷◌, ◌++◌, length, take, drop, get_or, map, sum, true, false, refl, ap, sym, subst, ◌∙◌, arith, length-drop}
+use Rattle.std.proofs.Common.{◌≡◌, ℕ, zero, suc, Bool, ◌&&◌, ◌+◌, ◌-◌, ◌<◌, ◌≤◌, List, [], ◌∷◌, ◌++◌, length, take, drop, get_or, map, sum, sum_by, true, false, refl, ap, sym, subst, ◌∙◌, arith, length-drop}
 use Rattle.std.specs.List.{AllByRecursion}
+use Rattle.std.proofs.lemmas.List.Sums.{sum_by-cons, sum-map}
 use Rattle.std.proofs.lemmas.List.{drop_all, drop_more, take_more, take_all, map-append}
 use Rattle.kat_tree.specs.declared.tree.Tree.{Tree}
 use Rattle.kat_tree.specs.declared.tree.Tree.TheVariants as variant
@@ -98,9 +99,12 @@ abbrev pub counts : List Tree → ℕ
 counts [] = 0
 counts (tree ∷ trees) = count_of tree + counts trees
 
+by_counts : (parts : List Tree) → sum_by count_of parts ≡ counts parts
+by_counts [] = refl
+by_counts (t ∷ parts) = sum_by-cons count_of t parts ∙ ap (λ n. count_of t + n) (by_counts parts)
+
 sum_counts : (parts : List Tree) → sum (map count_of parts) ≡ counts parts
-sum_counts [] = refl
-sum_counts (t ∷ parts) = ap (λ n. count_of t + n) (sum_counts parts)
+sum_counts parts = sum-map count_of parts ∙ by_counts parts
 
 -- a list has one more than its parts
 pub count-List : (parts : List Tree) → count_of (variant.List parts) ≡ counts parts + 1

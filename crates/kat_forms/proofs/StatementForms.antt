@@ -21,7 +21,6 @@ use Rattle.kat_ast.specs.declared.stm.MatchArm.{MatchArm}
 use Rattle.kat_ast.specs.declared.stm.Stm.TheVariants as made
 use Rattle.kat_ast.specs.declared.stm.Stm.TheVariants.{rolls-Ret, rolls-Let, rolls-Seq, rolls-If, rolls-Case, rolls-Match, rolls-Read, rolls-Write, rolls-Load, rolls-Store, rolls-Call, rolls-Check, rolls-Fail, rolls-Open, rolls-Close, rolls-Lemma}
 use Rattle.kat_ast.specs.declared.stm.Stm.TheOpen as layer
-use Rattle.kat_ast.specs.declared.stm.Stm.TheOpen as stm
 use Rattle.kat_ast.specs.declared.stm.Stm.TheShapes.{former-Stm-Case-1-at-2 as case_arm, former-Stm-Match-1-at-3 as match_arm}
 use Rattle.kat_ast.specs.declared.stm.Stm.TheFolds.{map-Stm, fold-roll-Stm, ind-Stm}
 use Rattle.kat_ast.specs.Parts.{word, form, is_name, every, is_some}
@@ -193,34 +192,34 @@ some_map : {A B : Type 0} → (f : A → B) (xs : List A) → is_some (map f xs)
 some_map f [] = refl
 some_map f (x ∷ xs) = refl
 
-stm_layer : (y : stm.Stm-F ((s : Stm) × StmFits s)) →
+stm_layer : (y : layer.Stm-F ((s : Stm) × StmFits s)) →
     stm_formed (map-Stm Stm Bool is_formed_stm (map-Stm ((s : Stm) × StmFits s) Stm (λ s. s.0) y)) ≡ true →
     fits sort.Statement (stm_tree (map-Stm Stm Tree tree_of_stm (map-Stm ((s : Stm) × StmFits s) Stm (λ s. s.0) y))) ≡ true
-stm_layer (stm.Ret e) f = form_fits sort.Statement (codes "ret") _ _ (sort.Expression ∷ []) refl refl (expr_fits e f, tt)
-stm_layer (stm.Let x a b) f = let h = apart (is_name x) (is_formed_stm a.0 && is_formed_stm b.0) f in let i = apart (is_formed_stm a.0) (is_formed_stm b.0) h.1 in
+stm_layer (layer.Ret e) f = form_fits sort.Statement (codes "ret") _ _ (sort.Expression ∷ []) refl refl (expr_fits e f, tt)
+stm_layer (layer.Let x a b) f = let h = apart (is_name x) (is_formed_stm a.0 && is_formed_stm b.0) f in let i = apart (is_formed_stm a.0) (is_formed_stm b.0) h.1 in
     form_fits sort.Statement (codes "let") _ _ (sort.Name ∷ sort.Statement ∷ sort.Statement ∷ []) refl refl (name_fits x h.0, (a.1 i.0, (b.1 i.1, tt)))
-stm_layer (stm.Seq parts) f =
+stm_layer (layer.Seq parts) f =
     let trees = map tree_of_stm (map (λ s. s.0) parts) in
     let h = apart (is_some (map is_formed_stm (map (λ (s : (s : Stm) × StmFits s). s.0) parts))) (every (map is_formed_stm (map (λ s. s.0) parts))) f in
     seq_fits trees (some_map tree_of_stm (map (λ s. s.0) parts) ∙ sym (some_map is_formed_stm (map (λ s. s.0) parts)) ∙ h.0) (fitting_stms parts h.1)
-stm_layer (stm.If e a b) f = let h = apart (is_formed_expr e) (is_formed_stm a.0 && is_formed_stm b.0) f in let i = apart (is_formed_stm a.0) (is_formed_stm b.0) h.1 in
+stm_layer (layer.If e a b) f = let h = apart (is_formed_expr e) (is_formed_stm a.0 && is_formed_stm b.0) f in let i = apart (is_formed_stm a.0) (is_formed_stm b.0) h.1 in
     form_fits sort.Statement (codes "if") _ _ (sort.Expression ∷ sort.Statement ∷ sort.Statement ∷ []) refl refl (expr_fits e h.0, (a.1 i.0, (b.1 i.1, tt)))
-stm_layer (stm.Case e arms) f = let h = apart (is_formed_expr e) _ f in
+stm_layer (layer.Case e arms) f = let h = apart (is_formed_expr e) _ f in
     headed_many sort.Statement sort.Expression sort.CaseArm (codes "case") (tree_of_expr e) _ refl (expr_fits e h.0) (fitting_case_arms arms h.1)
-stm_layer (stm.Match e arms) f = let h = apart (is_formed_expr e) _ f in
+stm_layer (layer.Match e arms) f = let h = apart (is_formed_expr e) _ f in
     headed_many sort.Statement sort.Expression sort.MatchArm (codes "match") (tree_of_expr e) _ refl (expr_fits e h.0) (fitting_match_arms arms h.1)
-stm_layer (stm.Read r) f = form_fits sort.Statement (codes "read") _ _ (sort.Name ∷ []) refl refl (name_fits r f, tt)
-stm_layer (stm.Write r e) f = let h = apart (is_name r) (is_formed_expr e) f in
+stm_layer (layer.Read r) f = form_fits sort.Statement (codes "read") _ _ (sort.Name ∷ []) refl refl (name_fits r f, tt)
+stm_layer (layer.Write r e) f = let h = apart (is_name r) (is_formed_expr e) f in
     form_fits sort.Statement (codes "write") _ _ (sort.Name ∷ sort.Expression ∷ []) refl refl (name_fits r h.0, (expr_fits e h.1, tt))
-stm_layer (stm.Load e) f = form_fits sort.Statement (codes "load") _ _ (sort.Expression ∷ []) refl refl (expr_fits e f, tt)
-stm_layer (stm.Store i e) f = let h = apart (is_formed_expr i) (is_formed_expr e) f in
+stm_layer (layer.Load e) f = form_fits sort.Statement (codes "load") _ _ (sort.Expression ∷ []) refl refl (expr_fits e f, tt)
+stm_layer (layer.Store i e) f = let h = apart (is_formed_expr i) (is_formed_expr e) f in
     form_fits sort.Statement (codes "store") _ _ (sort.Expression ∷ sort.Expression ∷ []) refl refl (expr_fits i h.0, (expr_fits e h.1, tt))
-stm_layer (stm.Call x args) f = let h = apart (is_name x) (are_formed_exprs args) f in named_many sort.Statement sort.Expression (codes "call") x (map tree_of_expr args) refl h.0 (exprs_fit args h.1)
-stm_layer (stm.Check e) f = form_fits sort.Statement (codes "check") _ _ (sort.Expression ∷ []) refl refl (expr_fits e f, tt)
-stm_layer stm.Fail f = form_fits sort.Statement (codes "fail") [] _ [] refl refl tt
-stm_layer (stm.Open x args) f = let h = apart (is_name x) (are_formed_exprs args) f in named_many sort.Statement sort.Expression (codes "open") x (map tree_of_expr args) refl h.0 (exprs_fit args h.1)
-stm_layer (stm.Close x args) f = let h = apart (is_name x) (are_formed_exprs args) f in named_many sort.Statement sort.Expression (codes "close") x (map tree_of_expr args) refl h.0 (exprs_fit args h.1)
-stm_layer (stm.Lemma x args) f = let h = apart (is_name x) (are_formed_exprs args) f in named_many sort.Statement sort.Expression (codes "lemma") x (map tree_of_expr args) refl h.0 (exprs_fit args h.1)
+stm_layer (layer.Call x args) f = let h = apart (is_name x) (are_formed_exprs args) f in named_many sort.Statement sort.Expression (codes "call") x (map tree_of_expr args) refl h.0 (exprs_fit args h.1)
+stm_layer (layer.Check e) f = form_fits sort.Statement (codes "check") _ _ (sort.Expression ∷ []) refl refl (expr_fits e f, tt)
+stm_layer layer.Fail f = form_fits sort.Statement (codes "fail") [] _ [] refl refl tt
+stm_layer (layer.Open x args) f = let h = apart (is_name x) (are_formed_exprs args) f in named_many sort.Statement sort.Expression (codes "open") x (map tree_of_expr args) refl h.0 (exprs_fit args h.1)
+stm_layer (layer.Close x args) f = let h = apart (is_name x) (are_formed_exprs args) f in named_many sort.Statement sort.Expression (codes "close") x (map tree_of_expr args) refl h.0 (exprs_fit args h.1)
+stm_layer (layer.Lemma x args) f = let h = apart (is_name x) (are_formed_exprs args) f in named_many sort.Statement sort.Expression (codes "lemma") x (map tree_of_expr args) refl h.0 (exprs_fit args h.1)
 
 pub stm_fits : (s : Stm) → is_formed_stm s ≡ true → fits sort.Statement (tree_of_stm s) ≡ true
 stm_fits = ind-Stm StmFits (λ x y is f.

@@ -32,6 +32,12 @@ pub record IsHeaded (parts : List Tree) : Type 0 where
   pub behind : List Tree
   pub is : parts ≡ word head ∷ behind
 
+-- a list that begins with a word
+pub record IsHeadedList (tree : Tree) : Type 0 where
+  pub head : List ℕ
+  pub behind : List Tree
+  pub is : tree ≡ form head behind
+
 -- a list of a word and one part
 pub record IsHolder (tree : Tree) : Type 0 where
   pub head : List ℕ

@@ -2,7 +2,7 @@
 
 ghost use Rattle.std.specs.Prelude.{◌≡◌, true, ℕ, [], ◌∷◌, List, IfOk};
 ghost use Rattle.kat_ast.specs.Parts.{is_name, word, number, form};
-ghost use Rattle.kat_forms.specs.Parts.{FitsSort, HasParts, IsHeaded, IsHolder};
+ghost use Rattle.kat_forms.specs.Parts.{FitsSort, HasParts, IsHeaded, IsHeadedList, IsHolder};
 ghost use Rattle.kat_forms.specs.Forms.{IsName, IsType};
 
 use kat_ast::TypeName;
@@ -61,6 +61,20 @@ pub(crate) fn split(parts: &[Tree]) -> (&str, &[Tree])
         unreachable!();
     };
     (word.as_str(), behind)
+}
+
+/// The parts of a list behind its word.
+pub(crate) fn parts_of(tree: &Tree) -> &[Tree]
+    requires { IsHeadedList tree.now }
+    ensures { (head : List ℕ) × (tree.now ≡ form head result.now) }
+{
+    let Tree::List(parts) = tree else {
+        unreachable!();
+    };
+    let [_, behind @ ..] = parts.as_slice() else {
+        unreachable!();
+    };
+    behind
 }
 
 /// The one part of a list behind its word.

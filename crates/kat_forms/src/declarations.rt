@@ -9,7 +9,7 @@ ghost use Rattle.kat_forms.specs.Parts.{FitsSort, HasParts};
 ghost use Rattle.kat_forms.specs.Forms.{IsHolding, IsPhase, IsWhen, IsDeclForm, AreWhens};
 
 use crate::assertions::assertion_in;
-use crate::atoms::{name_in, number_in, only_name, part_of, split, type_in};
+use crate::atoms::{name_in, number_in, only_name, part_of, parts_of, split, type_in};
 use crate::expressions::expr_in;
 use crate::params::{fields_in, members_in, numbers_in, params_in};
 use crate::statements::{stm_in, stms_in};
@@ -357,10 +357,7 @@ fn when_in(alloc: Global, tree: &Tree) -> Result<When, AllocError>
     requires { FitsSort Sort.When tree.now }
     ensures { IfOk result (λ w. IsWhen tree.now w) }
 {
-    let Tree::List(parts) = tree else {
-        unreachable!();
-    };
-    let [_, test, phase] = parts.as_slice() else {
+    let [test, phase] = parts_of(tree) else {
         unreachable!();
     };
     Ok(When {
@@ -386,11 +383,5 @@ fn steps_in(alloc: Global, tree: &Tree) -> Result<Items<Stm>, AllocError>
     requires { FitsSort Sort.Steps tree.now }
     ensures { IfOk result (λ ss. (form (codes "steps") (map tree_of_stm ss) ≡ tree.now) × (every (map is_formed_stm ss) ≡ true)) }
 {
-    let Tree::List(parts) = tree else {
-        unreachable!();
-    };
-    let [_, steps @ ..] = parts.as_slice() else {
-        unreachable!();
-    };
-    stms_in(alloc, steps)
+    stms_in(alloc, parts_of(tree))
 }

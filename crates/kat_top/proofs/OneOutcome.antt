@@ -10,9 +10,7 @@ use Rattle.kat_syntax.specs.Machine.{MachineState}
 use Rattle.kat_ast.specs.Declarations.{is_formed_decl, IsDecl}
 use Rattle.kat_ast.specs.Specifications.{Reads}
 use Rattle.kat_syntax.specs.Runnable.{IsFirstForm}
-use Rattle.kat_forms.specs.declared.sort.Sort.TheVariants as sort
-use Rattle.kat_forms.specs.declared.misfit.Misfit.{Misfit}
-use Rattle.kat_forms.specs.Fits.{fits, misfit_of}
+use Rattle.kat_shapes.specs.declared.misfit.Misfit.{Misfit}
 use Rattle.kat_forms.specs.Reading.{IsFirstMisfit}
 use Rattle.kat_top.specs.declared.refusal.TreeKind.{TreeKind}
 use Rattle.kat_top.specs.declared.refusal.TreeKind.TheVariants.{NotText, Unclosed, Stray, BadToken, Deep}
@@ -45,9 +43,7 @@ module _ (laws : FileLaws) where
 
   pub no_misfit : (bytes : List ℕ) (spec : Spec) (tree : TextTree) (misfit : Misfit) → Reads bytes spec → Spells bytes tree → IsFirstMisfit tree misfit → ⊥
   no_misfit bytes spec tree misfit x y m =
-      let e = laws.described_fits x.tree spec x.described in
-      let same = same_tree bytes x.tree tree x.spelled y in
-      let f = ap (fits sort.Spec) same in let g = m.misfits in absurd (cc)
+      laws.never_both x.tree spec misfit x.described (subst (λ t. IsFirstMisfit t misfit) (sym (same_tree bytes x.tree tree x.spelled y)) m)
 
   pub one_reading : (bytes : List ℕ) (a b : Result Spec Refusal) → IsDecided a → IsDecided b → IsSpecOf bytes a → IsSpecOf bytes b → a ≡ b
   one_reading bytes (Ok a) (Ok b) p q x y = ap Ok (laws.one_spec bytes a b x y)
@@ -62,8 +58,8 @@ module _ (laws : FileLaws) where
   one_reading bytes (Err (Form place wanted)) (Ok b) p q x y = absurd (no_misfit bytes b x.0 _ y x.1 x.2)
   one_reading bytes (Err (Form place wanted)) (Err (Tree kind offset)) p q x y = absurd (no_fault bytes x.0 kind offset x.1 y)
   one_reading bytes (Err (Form place wanted)) (Err (Form other what)) p q x y =
-      let same = same_tree bytes x.0 y.0 x.1 y.1 in
-      ap (λ (m : Misfit). Err (Form m.place m.wanted)) (x.2.first ∙ ap (λ t. misfit_of sort.Spec t 0) same ∙ sym y.2.first)
+      let there = subst (λ t. IsFirstMisfit t (record { place = place; wanted = wanted })) (same_tree bytes x.0 y.0 x.1 y.1) x.2 in
+      ap (λ (m : Misfit). Err (Form m.place m.wanted)) (laws.one_misfit y.0 (record { place = place; wanted = wanted }) (record { place = other; wanted = what }) there y.2)
   one_reading bytes (Err Failed) b p q x y = absurd p
   one_reading bytes (Err Long) b p q x y = absurd p
   one_reading bytes (Err Memory) b p q x y = absurd p

@@ -3,8 +3,8 @@ use Rattle.std.specs.Prelude.{ℕ, List, ◌++◌, codes}
 use Rattle.std.specs.Fmt.{decimal}
 use Rattle.kat_tree.specs.declared.error.TreeError.{TreeError}
 use Rattle.kat_tree.specs.declared.error.TreeError.TheVariants as fault
-use Rattle.kat_ast.specs.declared.wanted.Wanted.{Wanted}
-use Rattle.kat_ast.specs.declared.wanted.Wanted.TheVariants as wanted
+use Rattle.kat_shapes.specs.declared.wanted.Wanted.{Wanted}
+use Rattle.kat_shapes.specs.declared.wanted.Wanted.TheVariants as wanted
 use Rattle.kat_syntax.specs.StateText.{newline}
 use Rattle.kat_forms.specs.declared.error.FormError.{FormError}
 use Rattle.kat_forms.specs.declared.error.FormError.TheVariants as form

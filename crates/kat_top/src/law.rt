@@ -8,7 +8,7 @@ ghost use Rattle.kat_top.specs.Complete.{IsAnswer};
 ghost use Rattle.kat_top.specs.FileLaws.{FileLaws};
 ghost use Rattle.kat_top.specs.Told.{TextTellsToldRun, BeginningTellsToldRun};
 
-use kat_forms::written_fits;
+use kat_forms::one_description;
 use kat_image::{images_are_states, one_state};
 use kat_laws::text_tells_its_run;
 use kat_syntax::one_reading;
@@ -20,7 +20,7 @@ pub(crate) fn file_laws()
 {
     one_outcome();
     one_reading();
-    written_fits();
+    one_description();
     one_state();
 }
 

@@ -1,0 +1,46 @@
+-- The parts of each form fit, and each part has fewer trees than the whole.
+use Rattle.std.proofs.Common.{◌-◌, [], ◌∷◌, length, map, refl, ap, sym, subst, ◌∙◌, arith}
+use Rattle.std.specs.Prelude.{codes}
+use Rattle.std.specs.List.{AllByRecursion}
+use Rattle.kat_tree.specs.declared.tree.Tree.TheVariants as variant
+use Rattle.kat_ast.specs.Assertions.{is_formed_assertion, tree_of_assertion}
+use Rattle.kat_shapes.specs.declared.sort.Sort.TheVariants as sort
+use Rattle.kat_forms.specs.Parts.{FitsSort}
+use Rattle.kat_forms.proofs.Lists.{one_more, one_of, part_among}
+use Rattle.kat_forms.proofs.Fitting.{all_same, arm_fits, exact_parts, headed, many_parts}
+use Rattle.kat_forms.proofs.assertions.+assertions.Goals as goal
+
+pub assertion_in-split-requires : goal.assertion_in-split-requires
+assertion_in-split-requires t c = headed sort.Assertion c.as_slice.result.now refl (subst (FitsSort sort.Assertion) (c.in-List.is ∙ ap variant.List (sym c.as_slice.ensures)) c.requires)
+
+pub assertion_in-pure_in-requires : goal.assertion_in-pure_in-requires
+assertion_in-pure_in-requires t c = exact_parts sort.Assertion (codes "pure") (sort.Expression ∷ []) _ refl (arm_fits sort.Assertion (codes "pure") _ _ _ c.split-word.ensures c.in-pure.is (subst (FitsSort sort.Assertion) (c.in-List.is ∙ ap variant.List (sym c.as_slice.ensures)) c.requires))
+
+pub assertion_in-register_in-requires : goal.assertion_in-register_in-requires
+assertion_in-register_in-requires t c = exact_parts sort.Assertion (codes "reg") (sort.Name ∷ sort.Expression ∷ []) _ refl (arm_fits sort.Assertion (codes "reg") _ _ _ c.split-word.ensures c.in-reg.is (subst (FitsSort sort.Assertion) (c.in-List.is ∙ ap variant.List (sym c.as_slice.ensures)) c.requires))
+
+pub assertion_in-cell_in-requires : goal.assertion_in-cell_in-requires
+assertion_in-cell_in-requires t c = exact_parts sort.Assertion (codes "cell") (sort.Expression ∷ sort.Expression ∷ []) _ refl (arm_fits sort.Assertion (codes "cell") _ _ _ c.split-word.ensures c.in-cell.is (subst (FitsSort sort.Assertion) (c.in-List.is ∙ ap variant.List (sym c.as_slice.ensures)) c.requires))
+
+pub assertion_in-predicate_in-requires : goal.assertion_in-predicate_in-requires
+assertion_in-predicate_in-requires t c = many_parts sort.Assertion (codes "pred") (sort.Name ∷ []) sort.Expression _ refl (arm_fits sort.Assertion (codes "pred") _ _ _ c.split-word.ensures c.in-pred.is (subst (FitsSort sort.Assertion) (c.in-List.is ∙ ap variant.List (sym c.as_slice.ensures)) c.requires))
+
+pub assertion_in-region_in-requires : goal.assertion_in-region_in-requires
+assertion_in-region_in-requires t c = many_parts sort.Assertion (codes "region") (sort.Name ∷ []) sort.Expression _ refl (arm_fits sort.Assertion (codes "region") _ _ _ c.split-word.ensures c.in-region.is (subst (FitsSort sort.Assertion) (c.in-List.is ∙ ap variant.List (sym c.as_slice.ensures)) c.requires))
+
+pub assertions_in-assertion_in-requires : goal.assertions_in-assertion_in-requires
+assertions_in-assertion_in-requires t c =
+    let trees = c.args.trees.now in (
+      omega (arith, c.decreases, part_among trees c.loop-tree.tree-index c.tree-item.result (omega arith) c.tree-item.is),
+      one_of (FitsSort sort.Assertion) trees c.loop-tree.tree-index c.tree-item.result c.requires (omega arith) c.tree-item.is,
+    )
+
+pub assertions_in-loop-tree-preserved : goal.assertions_in-loop-tree-preserved
+assertions_in-loop-tree-preserved t c =
+    one_more tree_of_assertion is_formed_assertion c.args.trees.now c.loop-tree.all _ c.loop-tree.tree-index c.in_ok-assertion_in.field-0 c.tree-item.result
+    c.in_ok-push.ensures.ok c.loop-tree.invariant (omega arith) c.tree-item.is c.in_ok-assertion_in.ensures.0 c.in_ok-assertion_in.ensures.1
+
+pub star_in-assertions_in-requires : goal.star_in-assertions_in-requires
+star_in-assertions_in-requires t c =
+    let parts = c.args.parts.now in
+    (omega (arith, c.decreases), all_same sort.Assertion (length parts) parts c.requires.fit)

@@ -1,0 +1,145 @@
+-- The parts of each form fit, and each part has fewer trees than the whole.
+use Rattle.std.proofs.Common.{◌-◌, ◌&&◌, [], ◌∷◌, length, take, drop, map, refl, ap, sym, subst, ◌∙◌, arith}
+use Rattle.std.specs.Prelude.{codes}
+use Rattle.std.specs.List.{AllByRecursion}
+use Rattle.std.proofs.lemmas.List.{length-replicate}
+use Rattle.kat_tree.specs.Preorder.{count_of}
+use Rattle.kat_tree.specs.declared.tree.Tree.TheVariants as variant
+use Rattle.kat_ast.specs.Parts.{is_name}
+use Rattle.kat_ast.specs.Statements.{is_formed_stm, tree_of_stm}
+use Rattle.kat_shapes.specs.declared.sort.Sort.TheVariants as sort
+use Rattle.kat_forms.specs.Parts.{FitsSort}
+use Rattle.kat_forms.specs.Forms.{case_tree, case_formed, match_tree, match_formed}
+use Rattle.kat_forms.proofs.Lists.{both, count-List, one_and, one_more, one_of, part_among, rest_among, rest_is, same2, same3, two, three}
+use Rattle.kat_forms.proofs.Fitting.{arm_fits, exact_parts, exact_place, part_fits, headed, many_parts, rest_fits, some_fit}
+use Rattle.kat_forms.proofs.StatementForms.{Seq-is, Case-is, Match-is}
+use Rattle.kat_forms.proofs.statements.+stm.Goals as goal
+
+pub stm_in-split-requires : goal.stm_in-split-requires
+stm_in-split-requires t c = headed sort.Statement c.as_slice.result.now refl (subst (FitsSort sort.Statement) (c.in-List.is ∙ ap variant.List (sym c.as_slice.ensures)) c.requires)
+
+pub stm_in-ret_in-requires : goal.stm_in-ret_in-requires
+stm_in-ret_in-requires t c = exact_parts sort.Statement (codes "ret") (sort.Expression ∷ []) _ refl (arm_fits sort.Statement (codes "ret") _ _ _ c.split-word.ensures c.in-ret.is (subst (FitsSort sort.Statement) (c.in-List.is ∙ ap variant.List (sym c.as_slice.ensures)) c.requires))
+
+pub stm_in-read_in-requires : goal.stm_in-read_in-requires
+stm_in-read_in-requires t c = exact_parts sort.Statement (codes "read") (sort.Name ∷ []) _ refl (arm_fits sort.Statement (codes "read") _ _ _ c.split-word.ensures c.in-read.is (subst (FitsSort sort.Statement) (c.in-List.is ∙ ap variant.List (sym c.as_slice.ensures)) c.requires))
+
+pub stm_in-write_in-requires : goal.stm_in-write_in-requires
+stm_in-write_in-requires t c = exact_parts sort.Statement (codes "write") (sort.Name ∷ sort.Expression ∷ []) _ refl (arm_fits sort.Statement (codes "write") _ _ _ c.split-word.ensures c.in-write.is (subst (FitsSort sort.Statement) (c.in-List.is ∙ ap variant.List (sym c.as_slice.ensures)) c.requires))
+
+pub stm_in-load_in-requires : goal.stm_in-load_in-requires
+stm_in-load_in-requires t c = exact_parts sort.Statement (codes "load") (sort.Expression ∷ []) _ refl (arm_fits sort.Statement (codes "load") _ _ _ c.split-word.ensures c.in-load.is (subst (FitsSort sort.Statement) (c.in-List.is ∙ ap variant.List (sym c.as_slice.ensures)) c.requires))
+
+pub stm_in-store_in-requires : goal.stm_in-store_in-requires
+stm_in-store_in-requires t c = exact_parts sort.Statement (codes "store") (sort.Expression ∷ sort.Expression ∷ []) _ refl (arm_fits sort.Statement (codes "store") _ _ _ c.split-word.ensures c.in-store.is (subst (FitsSort sort.Statement) (c.in-List.is ∙ ap variant.List (sym c.as_slice.ensures)) c.requires))
+
+pub stm_in-call_in-requires : goal.stm_in-call_in-requires
+stm_in-call_in-requires t c = many_parts sort.Statement (codes "call") (sort.Name ∷ []) sort.Expression _ refl (arm_fits sort.Statement (codes "call") _ _ _ c.split-word.ensures c.in-call.is (subst (FitsSort sort.Statement) (c.in-List.is ∙ ap variant.List (sym c.as_slice.ensures)) c.requires))
+
+pub stm_in-check_in-requires : goal.stm_in-check_in-requires
+stm_in-check_in-requires t c = exact_parts sort.Statement (codes "check") (sort.Expression ∷ []) _ refl (arm_fits sort.Statement (codes "check") _ _ _ c.split-word.ensures c.in-check.is (subst (FitsSort sort.Statement) (c.in-List.is ∙ ap variant.List (sym c.as_slice.ensures)) c.requires))
+
+pub stm_in-open_in-requires : goal.stm_in-open_in-requires
+stm_in-open_in-requires t c = many_parts sort.Statement (codes "open") (sort.Name ∷ []) sort.Expression _ refl (arm_fits sort.Statement (codes "open") _ _ _ c.split-word.ensures c.in-open.is (subst (FitsSort sort.Statement) (c.in-List.is ∙ ap variant.List (sym c.as_slice.ensures)) c.requires))
+
+pub stm_in-close_in-requires : goal.stm_in-close_in-requires
+stm_in-close_in-requires t c = many_parts sort.Statement (codes "close") (sort.Name ∷ []) sort.Expression _ refl (arm_fits sort.Statement (codes "close") _ _ _ c.split-word.ensures c.in-close.is (subst (FitsSort sort.Statement) (c.in-List.is ∙ ap variant.List (sym c.as_slice.ensures)) c.requires))
+
+pub stm_in-lemma_in-requires : goal.stm_in-lemma_in-requires
+stm_in-lemma_in-requires t c = many_parts sort.Statement (codes "lemma") (sort.Name ∷ []) sort.Expression _ refl (arm_fits sort.Statement (codes "lemma") _ _ _ c.split-word.ensures c.in-lemma.is (subst (FitsSort sort.Statement) (c.in-List.is ∙ ap variant.List (sym c.as_slice.ensures)) c.requires))
+
+pub stms_in-stm_in-requires : goal.stms_in-stm_in-requires
+stms_in-stm_in-requires t c =
+    let trees = c.args.trees.now in (
+      omega (arith, c.decreases, part_among trees c.loop-tree.tree-index c.tree-item.result (omega arith) c.tree-item.is),
+      one_of (FitsSort sort.Statement) trees c.loop-tree.tree-index c.tree-item.result c.requires (omega arith) c.tree-item.is,
+    )
+
+pub stms_in-loop-tree-preserved : goal.stms_in-loop-tree-preserved
+stms_in-loop-tree-preserved t c =
+    one_more tree_of_stm is_formed_stm c.args.trees.now c.loop-tree.stms _ c.loop-tree.tree-index c.in_ok-stm_in.field-0 c.tree-item.result
+    c.in_ok-push.ensures.ok c.loop-tree.invariant (omega arith) c.tree-item.is c.in_ok-stm_in.ensures.0 c.in_ok-stm_in.ensures.1
+
+pub seq_in-stms_in-requires : goal.seq_in-stms_in-requires
+seq_in-stms_in-requires t c =
+    let parts = c.args.parts.now in
+    (omega (arith, c.decreases), some_fit sort.Statement (length parts - 1) parts c.requires)
+
+pub seq_in-returns : goal.seq_in-returns
+seq_in-returns t c =
+    let parts = c.args.parts.now in
+    Seq-is parts c.in_ok-stms_in.field-0 c.in_ok-stms_in.ensures (length parts - 1) (omega (arith, c.requires.count, length-replicate (length parts - 1) sort.Statement))
+
+pub case_in-case_arms_in-requires : goal.case_in-case_arms_in-requires
+case_in-case_arms_in-requires t c =
+    let parts = c.args.parts.now in (
+      omega (arith, c.decreases, rest_among parts 1),
+      subst (AllByRecursion (FitsSort sort.CaseArm)) (sym (rest_is parts 1)) (rest_fits (sort.Expression ∷ []) sort.CaseArm (length parts - 1) parts c.requires),
+    )
+
+pub case_in-returns : goal.case_in-returns
+case_in-returns t c =
+    let parts = c.args.parts.now in
+    let rest = take (length parts - 1) (drop 1 parts) in
+    Case-is parts rest c.in_ok-expr_in.field-0 c.in_ok-case_arms_in.field-0
+    (ap (λ u. u ∷ rest) c.in_ok-expr_in.ensures.0 ∙ sym (one_and parts c.value-item.result (omega arith) c.value-item.is)) c.in_ok-expr_in.ensures.1 c.in_ok-case_arms_in.ensures
+
+pub match_in-match_arms_in-requires : goal.match_in-match_arms_in-requires
+match_in-match_arms_in-requires t c =
+    let parts = c.args.parts.now in (
+      omega (arith, c.decreases, rest_among parts 1),
+      subst (AllByRecursion (FitsSort sort.MatchArm)) (sym (rest_is parts 1)) (rest_fits (sort.Expression ∷ []) sort.MatchArm (length parts - 1) parts c.requires),
+    )
+
+pub match_in-returns : goal.match_in-returns
+match_in-returns t c =
+    let parts = c.args.parts.now in
+    let rest = take (length parts - 1) (drop 1 parts) in
+    Match-is parts rest c.in_ok-expr_in.field-0 c.in_ok-match_arms_in.field-0
+    (ap (λ u. u ∷ rest) c.in_ok-expr_in.ensures.0 ∙ sym (one_and parts c.value-item.result (omega arith) c.value-item.is)) c.in_ok-expr_in.ensures.1 c.in_ok-match_arms_in.ensures
+
+pub case_arms_in-stm_in-requires : goal.case_arms_in-stm_in-requires
+case_arms_in-stm_in-requires t c =
+    let trees = c.args.trees.now in
+    let tree = c.tree-item.result in
+    let parts = c.as_slice.result.now in
+    let is = c.in-List.is ∙ ap variant.List (sym c.as_slice.ensures) in
+    let fit = one_of (FitsSort sort.CaseArm) trees c.loop-tree.tree-index tree c.requires (omega arith) c.tree-item.is in
+    let has = exact_place sort.CaseArm (sort.Name ∷ sort.Statement ∷ []) parts (λ found. refl) (subst (FitsSort sort.CaseArm) is fit) in (
+      omega (arith, c.decreases, part_among trees c.loop-tree.tree-index tree (omega arith) c.tree-item.is, ap count_of is, count-List parts,
+      part_among parts 1 c.body-item.result (omega arith) c.body-item.is),
+      part_fits (sort.Name ∷ sort.Statement ∷ []) parts 1 c.body-item.result has (omega arith) c.body-item.is,
+    )
+
+pub case_arms_in-loop-tree-preserved : goal.case_arms_in-loop-tree-preserved
+case_arms_in-loop-tree-preserved t c =
+    let parts = c.as_slice.result.now in
+    let is = c.in-List.is ∙ ap variant.List (sym c.as_slice.ensures) in
+    one_more case_tree case_formed c.args.trees.now c.loop-tree.arms _ c.loop-tree.tree-index (record { member = c.in_ok-name_in.field-0; body = c.in_ok-stm_in.field-0 }) c.tree-item.result
+    c.in_ok-push.ensures.ok c.loop-tree.invariant (omega arith) c.tree-item.is
+    (ap variant.List (same2 c.in_ok-name_in.ensures.0 c.in_ok-stm_in.ensures.0 ∙ sym (two parts c.member-item.result c.body-item.result (omega arith) c.member-item.is c.body-item.is)) ∙ sym is)
+    (both (is_name c.in_ok-name_in.field-0) (is_formed_stm c.in_ok-stm_in.field-0) c.in_ok-name_in.ensures.1 c.in_ok-stm_in.ensures.1)
+
+pub match_arms_in-stm_in-requires : goal.match_arms_in-stm_in-requires
+match_arms_in-stm_in-requires t c =
+    let trees = c.args.trees.now in
+    let tree = c.tree-item.result in
+    let parts = c.as_slice.result.now in
+    let is = c.in-List.is ∙ ap variant.List (sym c.as_slice.ensures) in
+    let fit = one_of (FitsSort sort.MatchArm) trees c.loop-tree.tree-index tree c.requires (omega arith) c.tree-item.is in
+    let has = exact_place sort.MatchArm (sort.Name ∷ sort.Name ∷ sort.Statement ∷ []) parts (λ found. refl) (subst (FitsSort sort.MatchArm) is fit) in (
+      omega (arith, c.decreases, part_among trees c.loop-tree.tree-index tree (omega arith) c.tree-item.is, ap count_of is, count-List parts,
+      part_among parts 2 c.body-item.result (omega arith) c.body-item.is),
+      part_fits (sort.Name ∷ sort.Name ∷ sort.Statement ∷ []) parts 2 c.body-item.result has (omega arith) c.body-item.is,
+    )
+
+pub match_arms_in-loop-tree-preserved : goal.match_arms_in-loop-tree-preserved
+match_arms_in-loop-tree-preserved t c =
+    let parts = c.as_slice.result.now in
+    let is = c.in-List.is ∙ ap variant.List (sym c.as_slice.ensures) in
+    one_more match_tree match_formed c.args.trees.now c.loop-tree.arms _ c.loop-tree.tree-index (record { ctor = c.in_ok-name_in.field-0; payload = c.in_ok-name_in-2.field-0; body = c.in_ok-stm_in.field-0 }) c.tree-item.result
+    c.in_ok-push.ensures.ok c.loop-tree.invariant (omega arith) c.tree-item.is
+    (ap variant.List (same3 c.in_ok-name_in.ensures.0 c.in_ok-name_in-2.ensures.0 c.in_ok-stm_in.ensures.0
+    ∙ sym (three parts c.ctor-item.result c.payload-item.result c.body-item.result (omega arith) c.ctor-item.is c.payload-item.is c.body-item.is)) ∙ sym is)
+    (both (is_name c.in_ok-name_in.field-0) (is_name c.in_ok-name_in-2.field-0 && is_formed_stm c.in_ok-stm_in.field-0) c.in_ok-name_in.ensures.1
+    (both (is_name c.in_ok-name_in-2.field-0) (is_formed_stm c.in_ok-stm_in.field-0) c.in_ok-name_in-2.ensures.1 c.in_ok-stm_in.ensures.1))
