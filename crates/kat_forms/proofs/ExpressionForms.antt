@@ -436,8 +436,9 @@ bare-from w o bare ps h =
 abbrev ListOf : List ℕ → Form → Type 0
 ListOf w f = (ps : List Known) → FitsSort sort.Expression (form w (trees ps)) → (x : Expr) × IsExpr (form w (trees ps)) x
 
-abbrev bare_list : (o : Op) → IsBare (word_of_op o) o → (f : Form) → ListOf (word_of_op o) f
-bare_list o bare f ps fit =
+bare_list : (o : Op) → IsBare (word_of_op o) o → (ps : List Known) → FitsSort sort.Expression (form (word_of_op o) (trees ps)) →
+    (x : Expr) × IsExpr (form (word_of_op o) (trees ps)) x
+bare_list o bare ps fit =
     bare-from (word_of_op o) o bare ps (exact_parts sort.Expression (word_of_op o) (replicate (arity_of o) sort.Expression) (trees ps) bare.formed fit)
 
 list_rows : AllByRecursion (λ (row : List ℕ × Form). ListOf row.0 row.1) expressions
@@ -457,26 +458,26 @@ list_rows = (
     (λ ps fit. slice-from ps (exact_parts sort.Expression (codes "slice") (sort.Number ∷ sort.Number ∷ sort.Expression ∷ []) (trees ps) refl fit),
     (λ ps fit. zext-from ps (exact_parts sort.Expression (codes "zext") (sort.Number ∷ sort.Expression ∷ []) (trees ps) refl fit),
     (λ ps fit. sext-from ps (exact_parts sort.Expression (codes "sext") (sort.Number ∷ sort.Expression ∷ []) (trees ps) refl fit),
-    (bare_list op.Not (record { word_is = refl; alone = refl; written = refl; formed = refl }) _,
-    (bare_list op.And (record { word_is = refl; alone = refl; written = refl; formed = refl }) _,
-    (bare_list op.Or (record { word_is = refl; alone = refl; written = refl; formed = refl }) _,
-    (bare_list op.Eq (record { word_is = refl; alone = refl; written = refl; formed = refl }) _,
-    (bare_list op.Ult (record { word_is = refl; alone = refl; written = refl; formed = refl }) _,
-    (bare_list op.Ule (record { word_is = refl; alone = refl; written = refl; formed = refl }) _,
-    (bare_list op.Slt (record { word_is = refl; alone = refl; written = refl; formed = refl }) _,
-    (bare_list op.Sle (record { word_is = refl; alone = refl; written = refl; formed = refl }) _,
-    (bare_list op.Add (record { word_is = refl; alone = refl; written = refl; formed = refl }) _,
-    (bare_list op.Sub (record { word_is = refl; alone = refl; written = refl; formed = refl }) _,
-    (bare_list op.Mul (record { word_is = refl; alone = refl; written = refl; formed = refl }) _,
-    (bare_list op.Band (record { word_is = refl; alone = refl; written = refl; formed = refl }) _,
-    (bare_list op.Bor (record { word_is = refl; alone = refl; written = refl; formed = refl }) _,
-    (bare_list op.Bxor (record { word_is = refl; alone = refl; written = refl; formed = refl }) _,
-    (bare_list op.Bnot (record { word_is = refl; alone = refl; written = refl; formed = refl }) _,
-    (bare_list op.Shl (record { word_is = refl; alone = refl; written = refl; formed = refl }) _,
-    (bare_list op.Shr (record { word_is = refl; alone = refl; written = refl; formed = refl }) _,
-    (bare_list op.Sar (record { word_is = refl; alone = refl; written = refl; formed = refl }) _,
-    (bare_list op.Cat (record { word_is = refl; alone = refl; written = refl; formed = refl }) _,
-    (bare_list op.Ite (record { word_is = refl; alone = refl; written = refl; formed = refl }) _, tt)))))))))))))))))))))))))))))))))))
+    (bare_list op.Not (record { word_is = refl; alone = refl; written = refl; formed = refl }),
+    (bare_list op.And (record { word_is = refl; alone = refl; written = refl; formed = refl }),
+    (bare_list op.Or (record { word_is = refl; alone = refl; written = refl; formed = refl }),
+    (bare_list op.Eq (record { word_is = refl; alone = refl; written = refl; formed = refl }),
+    (bare_list op.Ult (record { word_is = refl; alone = refl; written = refl; formed = refl }),
+    (bare_list op.Ule (record { word_is = refl; alone = refl; written = refl; formed = refl }),
+    (bare_list op.Slt (record { word_is = refl; alone = refl; written = refl; formed = refl }),
+    (bare_list op.Sle (record { word_is = refl; alone = refl; written = refl; formed = refl }),
+    (bare_list op.Add (record { word_is = refl; alone = refl; written = refl; formed = refl }),
+    (bare_list op.Sub (record { word_is = refl; alone = refl; written = refl; formed = refl }),
+    (bare_list op.Mul (record { word_is = refl; alone = refl; written = refl; formed = refl }),
+    (bare_list op.Band (record { word_is = refl; alone = refl; written = refl; formed = refl }),
+    (bare_list op.Bor (record { word_is = refl; alone = refl; written = refl; formed = refl }),
+    (bare_list op.Bxor (record { word_is = refl; alone = refl; written = refl; formed = refl }),
+    (bare_list op.Bnot (record { word_is = refl; alone = refl; written = refl; formed = refl }),
+    (bare_list op.Shl (record { word_is = refl; alone = refl; written = refl; formed = refl }),
+    (bare_list op.Shr (record { word_is = refl; alone = refl; written = refl; formed = refl }),
+    (bare_list op.Sar (record { word_is = refl; alone = refl; written = refl; formed = refl }),
+    (bare_list op.Cat (record { word_is = refl; alone = refl; written = refl; formed = refl }),
+    (bare_list op.Ite (record { word_is = refl; alone = refl; written = refl; formed = refl }), tt)))))))))))))))))))))))))))))))))))
 
 list_by : (w : List ℕ) (ps : List Known) (found : Option Form) → row_of expressions w ≡ found → FitsSort sort.Expression (form w (trees ps)) →
     (x : Expr) × IsExpr (form w (trees ps)) x
