@@ -5,12 +5,13 @@ use Rattle.std.proofs.lemmas.List.Sums.{sum_by-cons, sum-map}
 use Rattle.std.proofs.lemmas.List.{drop_all, drop_more, take_more, take_all, map-append}
 use Rattle.kat_tree.specs.declared.tree.Tree.{Tree}
 use Rattle.kat_tree.specs.declared.tree.Tree.TheVariants as variant
-use Rattle.kat_tree.specs.declared.tree.Tree.TheVariants.{rolls-List}
+use Rattle.kat_tree.specs.declared.tree.Tree.TheVariants.{rolls-Atom, rolls-List}
 use Rattle.kat_tree.specs.declared.tree.Tree.TheOpen.{Tree-F}
 use Rattle.kat_tree.specs.declared.tree.Tree.TheViews.{out-Tree, outs-List}
 use Rattle.kat_tree.specs.declared.tree.Tree.TheFolds.{fold-roll-Tree}
 use Rattle.kat_tree.specs.Preorder.{count_in, count_of}
-use Rattle.kat_ast.specs.Parts.{every}
+use Rattle.kat_ast.specs.Parts.{every, word}
+use Rattle.kat_tree.specs.declared.tree.Token.TheVariants as token
 use Rattle.kat_forms.specs.Forms.{AreForms}
 
 -- a part at a place of a list
@@ -109,6 +110,12 @@ sum_counts parts = sum-map count_of parts ∙ by_counts parts
 -- a list has one more than its parts
 pub count-List : (parts : List Tree) → count_of (variant.List parts) ≡ counts parts + 1
 count-List parts = ap count_of (sym (rolls-List parts)) ∙ fold-roll-Tree ℕ count_in (Tree-F.List parts) ∙ ap (λ n. n + 1) (sum_counts parts)
+
+-- the parts behind a word have fewer
+pub behind_fewer : (x : List ℕ) (behind parts : List Tree) → word x ∷ behind ≡ parts → counts behind + 1 ≡ counts parts
+behind_fewer x behind parts same =
+    let e : count_of (word x) ≡ 1 = ap count_of (sym (rolls-Atom (token.Name x))) ∙ fold-roll-Tree ℕ count_in (Tree-F.Atom (token.Name x)) in
+    omega (arith, e, ap counts same)
 
 -- a part has no more trees than all parts
 pub part_among : (parts : List Tree) (i : ℕ) (part : Tree) → i < length parts → At parts i part → count_of part ≤ counts parts

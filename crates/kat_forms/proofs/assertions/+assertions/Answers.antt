@@ -14,19 +14,19 @@ pub assertion_in-split-requires : goal.assertion_in-split-requires
 assertion_in-split-requires t c = headed sort.Assertion c.as_slice.result.now refl (subst (FitsSort sort.Assertion) (c.in-List.is ∙ ap variant.List (sym c.as_slice.ensures)) c.requires)
 
 pub assertion_in-pure_in-requires : goal.assertion_in-pure_in-requires
-assertion_in-pure_in-requires t c = exact_parts sort.Assertion (codes "pure") (sort.Expression ∷ []) _ refl (arm_fits sort.Assertion (codes "pure") _ _ _ c.split-word.ensures c.in-pure.is (subst (FitsSort sort.Assertion) (c.in-List.is ∙ ap variant.List (sym c.as_slice.ensures)) c.requires))
+assertion_in-pure_in-requires t c = exact_parts sort.Assertion (codes "pure") (sort.Expression ∷ []) _ refl (arm_fits sort.Assertion (codes "pure") _ _ _ c.split.ensures c.in-pure.is (subst (FitsSort sort.Assertion) (c.in-List.is ∙ ap variant.List (sym c.as_slice.ensures)) c.requires))
 
 pub assertion_in-register_in-requires : goal.assertion_in-register_in-requires
-assertion_in-register_in-requires t c = exact_parts sort.Assertion (codes "reg") (sort.Name ∷ sort.Expression ∷ []) _ refl (arm_fits sort.Assertion (codes "reg") _ _ _ c.split-word.ensures c.in-reg.is (subst (FitsSort sort.Assertion) (c.in-List.is ∙ ap variant.List (sym c.as_slice.ensures)) c.requires))
+assertion_in-register_in-requires t c = exact_parts sort.Assertion (codes "reg") (sort.Name ∷ sort.Expression ∷ []) _ refl (arm_fits sort.Assertion (codes "reg") _ _ _ c.split.ensures c.in-reg.is (subst (FitsSort sort.Assertion) (c.in-List.is ∙ ap variant.List (sym c.as_slice.ensures)) c.requires))
 
 pub assertion_in-cell_in-requires : goal.assertion_in-cell_in-requires
-assertion_in-cell_in-requires t c = exact_parts sort.Assertion (codes "cell") (sort.Expression ∷ sort.Expression ∷ []) _ refl (arm_fits sort.Assertion (codes "cell") _ _ _ c.split-word.ensures c.in-cell.is (subst (FitsSort sort.Assertion) (c.in-List.is ∙ ap variant.List (sym c.as_slice.ensures)) c.requires))
+assertion_in-cell_in-requires t c = exact_parts sort.Assertion (codes "cell") (sort.Expression ∷ sort.Expression ∷ []) _ refl (arm_fits sort.Assertion (codes "cell") _ _ _ c.split.ensures c.in-cell.is (subst (FitsSort sort.Assertion) (c.in-List.is ∙ ap variant.List (sym c.as_slice.ensures)) c.requires))
 
 pub assertion_in-predicate_in-requires : goal.assertion_in-predicate_in-requires
-assertion_in-predicate_in-requires t c = many_parts sort.Assertion (codes "pred") (sort.Name ∷ []) sort.Expression _ refl (arm_fits sort.Assertion (codes "pred") _ _ _ c.split-word.ensures c.in-pred.is (subst (FitsSort sort.Assertion) (c.in-List.is ∙ ap variant.List (sym c.as_slice.ensures)) c.requires))
+assertion_in-predicate_in-requires t c = many_parts sort.Assertion (codes "pred") (sort.Name ∷ []) sort.Expression _ refl (arm_fits sort.Assertion (codes "pred") _ _ _ c.split.ensures c.in-pred.is (subst (FitsSort sort.Assertion) (c.in-List.is ∙ ap variant.List (sym c.as_slice.ensures)) c.requires))
 
 pub assertion_in-region_in-requires : goal.assertion_in-region_in-requires
-assertion_in-region_in-requires t c = many_parts sort.Assertion (codes "region") (sort.Name ∷ []) sort.Expression _ refl (arm_fits sort.Assertion (codes "region") _ _ _ c.split-word.ensures c.in-region.is (subst (FitsSort sort.Assertion) (c.in-List.is ∙ ap variant.List (sym c.as_slice.ensures)) c.requires))
+assertion_in-region_in-requires t c = many_parts sort.Assertion (codes "region") (sort.Name ∷ []) sort.Expression _ refl (arm_fits sort.Assertion (codes "region") _ _ _ c.split.ensures c.in-region.is (subst (FitsSort sort.Assertion) (c.in-List.is ∙ ap variant.List (sym c.as_slice.ensures)) c.requires))
 
 pub assertions_in-assertion_in-requires : goal.assertions_in-assertion_in-requires
 assertions_in-assertion_in-requires t c =

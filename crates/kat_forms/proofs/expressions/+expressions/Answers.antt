@@ -8,8 +8,8 @@ use Rattle.kat_value.specs.Words.{arity_of}
 use Rattle.kat_ast.specs.Expressions.{is_formed_expr, tree_of_expr}
 use Rattle.kat_shapes.specs.declared.sort.Sort.TheVariants as sort
 use Rattle.kat_forms.specs.Parts.{FitsSort}
-use Rattle.kat_forms.proofs.Lists.{count-List, one_and, one_more, one_of, part_among, rest_among, rest_is, same_first}
-use Rattle.kat_forms.proofs.Fitting.{all_same, arm_fits, exact_parts, headed, rest_fits}
+use Rattle.kat_forms.proofs.Lists.{behind_fewer, count-List, one_and, one_more, one_of, part_among, rest_among, rest_is, same_first}
+use Rattle.kat_forms.proofs.Fitting.{all_same, arm_fits, exact_parts, headed, many_parts, rest_fits}
 use Rattle.kat_forms.proofs.ExpressionForms.{Rec-is, arguments_fit, operation_is}
 use Rattle.kat_forms.proofs.expressions.+expressions.Goals as goal
 
@@ -34,42 +34,48 @@ pub list_in-split-requires : goal.list_in-split-requires
 list_in-split-requires t c = headed sort.Expression c.args.parts.now refl c.requires
 
 pub list_in-bits_in-requires : goal.list_in-bits_in-requires
-list_in-bits_in-requires t c = exact_parts sort.Expression (codes "bits") (sort.Number ∷ sort.Number ∷ []) _ refl (arm_fits sort.Expression (codes "bits") _ _ _ c.split-word.ensures c.in-bits.is c.requires)
+list_in-bits_in-requires t c = exact_parts sort.Expression (codes "bits") (sort.Number ∷ sort.Number ∷ []) _ refl (arm_fits sort.Expression (codes "bits") _ _ _ c.split.ensures c.in-bits.is c.requires)
 
 pub list_in-of_in-requires : goal.list_in-of_in-requires
-list_in-of_in-requires t c = exact_parts sort.Expression (codes "of") (sort.Name ∷ sort.Name ∷ []) _ refl (arm_fits sort.Expression (codes "of") _ _ _ c.split-word.ensures c.in-of.is c.requires)
+list_in-of_in-requires t c = exact_parts sort.Expression (codes "of") (sort.Name ∷ sort.Name ∷ []) _ refl (arm_fits sort.Expression (codes "of") _ _ _ c.split.ensures c.in-of.is c.requires)
 
 pub list_in-register_in-requires : goal.list_in-register_in-requires
-list_in-register_in-requires t c = exact_parts sort.Expression (codes "reg") (sort.Name ∷ []) _ refl (arm_fits sort.Expression (codes "reg") _ _ _ c.split-word.ensures c.in-reg.is c.requires)
+list_in-register_in-requires t c = exact_parts sort.Expression (codes "reg") (sort.Name ∷ []) _ refl (arm_fits sort.Expression (codes "reg") _ _ _ c.split.ensures c.in-reg.is c.requires)
 
 pub list_in-kept_in-requires : goal.list_in-kept_in-requires
-list_in-kept_in-requires t c = exact_parts sort.Expression (codes "kept") (sort.Name ∷ []) _ refl (arm_fits sort.Expression (codes "kept") _ _ _ c.split-word.ensures c.in-kept.is c.requires)
+list_in-kept_in-requires t c = exact_parts sort.Expression (codes "kept") (sort.Name ∷ []) _ refl (arm_fits sort.Expression (codes "kept") _ _ _ c.split.ensures c.in-kept.is c.requires)
 
 pub list_in-kept_cell_in-requires : goal.list_in-kept_cell_in-requires
-list_in-kept_cell_in-requires t c = exact_parts sort.Expression (codes "kept_cell") (sort.Number ∷ []) _ refl (arm_fits sort.Expression (codes "kept_cell") _ _ _ c.split-word.ensures c.in-kept_cell.is c.requires)
+list_in-kept_cell_in-requires t c = exact_parts sort.Expression (codes "kept_cell") (sort.Number ∷ []) _ refl (arm_fits sort.Expression (codes "kept_cell") _ _ _ c.split.ensures c.in-kept_cell.is c.requires)
 
 pub list_in-before_in-requires : goal.list_in-before_in-requires
-list_in-before_in-requires t c = exact_parts sort.Expression (codes "before") (sort.Name ∷ []) _ refl (arm_fits sort.Expression (codes "before") _ _ _ c.split-word.ensures c.in-before.is c.requires)
+list_in-before_in-requires t c = exact_parts sort.Expression (codes "before") (sort.Name ∷ []) _ refl (arm_fits sort.Expression (codes "before") _ _ _ c.split.ensures c.in-before.is c.requires)
 
 pub list_in-after_in-requires : goal.list_in-after_in-requires
-list_in-after_in-requires t c = exact_parts sort.Expression (codes "after") (sort.Name ∷ []) _ refl (arm_fits sort.Expression (codes "after") _ _ _ c.split-word.ensures c.in-after.is c.requires)
+list_in-after_in-requires t c = exact_parts sort.Expression (codes "after") (sort.Name ∷ []) _ refl (arm_fits sort.Expression (codes "after") _ _ _ c.split.ensures c.in-after.is c.requires)
 
 pub list_in-before_cell_in-requires : goal.list_in-before_cell_in-requires
-list_in-before_cell_in-requires t c = exact_parts sort.Expression (codes "before_cell") (sort.Number ∷ []) _ refl (arm_fits sort.Expression (codes "before_cell") _ _ _ c.split-word.ensures c.in-before_cell.is c.requires)
+list_in-before_cell_in-requires t c = exact_parts sort.Expression (codes "before_cell") (sort.Number ∷ []) _ refl (arm_fits sort.Expression (codes "before_cell") _ _ _ c.split.ensures c.in-before_cell.is c.requires)
 
 pub list_in-after_cell_in-requires : goal.list_in-after_cell_in-requires
-list_in-after_cell_in-requires t c = exact_parts sort.Expression (codes "after_cell") (sort.Number ∷ []) _ refl (arm_fits sort.Expression (codes "after_cell") _ _ _ c.split-word.ensures c.in-after_cell.is c.requires)
+list_in-after_cell_in-requires t c = exact_parts sort.Expression (codes "after_cell") (sort.Number ∷ []) _ refl (arm_fits sort.Expression (codes "after_cell") _ _ _ c.split.ensures c.in-after_cell.is c.requires)
+
+pub list_in-rec_in-requires : goal.list_in-rec_in-requires
+list_in-rec_in-requires t c = (
+  omega (arith, c.decreases, behind_fewer _ _ _ c.split.ensures),
+  many_parts sort.Expression (codes "rec") (sort.Name ∷ []) sort.Expression _ refl (arm_fits sort.Expression (codes "rec") _ _ _ c.split.ensures c.in-rec.is c.requires),
+)
 
 pub operation_in-exprs_in-requires : goal.operation_in-exprs_in-requires
 operation_in-exprs_in-requires t c = (
-  omega (arith, c.decreases),
+  omega arith,
   all_same sort.Expression (arity_of c.in-Some.op) c.args.parts.now
-  (arguments_fit c.args.word.now c.in-Some.op c.args.parts.now c.requires.none (sym c.op_of_word.ensures ∙ c.in-Some.is) c.requires.fits).fit,
+  (arguments_fit c.args.word.now c.in-Some.op c.args.parts.now c.requires.0.none (sym c.op_of_word.ensures ∙ c.in-Some.is) c.requires.0.fits).fit,
 )
 
 pub operation_in-returns : goal.operation_in-returns
 operation_in-returns t c =
-    operation_is c.args.word.now c.in-Some.op c.args.parts.now c.in_ok-args.args c.requires.none (sym c.op_of_word.ensures ∙ c.in-Some.is) c.requires.fits c.in_ok-args.ensures
+    operation_is c.args.word.now c.in-Some.op c.args.parts.now c.in_ok-args.args c.requires.0.none (sym c.op_of_word.ensures ∙ c.in-Some.is) c.requires.0.fits c.in_ok-args.ensures
 
 pub rec_in-exprs_in-requires : goal.rec_in-exprs_in-requires
 rec_in-exprs_in-requires t c =

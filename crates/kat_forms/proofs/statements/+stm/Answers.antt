@@ -19,34 +19,34 @@ pub stm_in-split-requires : goal.stm_in-split-requires
 stm_in-split-requires t c = headed sort.Statement c.as_slice.result.now refl (subst (FitsSort sort.Statement) (c.in-List.is ∙ ap variant.List (sym c.as_slice.ensures)) c.requires)
 
 pub stm_in-ret_in-requires : goal.stm_in-ret_in-requires
-stm_in-ret_in-requires t c = exact_parts sort.Statement (codes "ret") (sort.Expression ∷ []) _ refl (arm_fits sort.Statement (codes "ret") _ _ _ c.split-word.ensures c.in-ret.is (subst (FitsSort sort.Statement) (c.in-List.is ∙ ap variant.List (sym c.as_slice.ensures)) c.requires))
+stm_in-ret_in-requires t c = exact_parts sort.Statement (codes "ret") (sort.Expression ∷ []) _ refl (arm_fits sort.Statement (codes "ret") _ _ _ c.split.ensures c.in-ret.is (subst (FitsSort sort.Statement) (c.in-List.is ∙ ap variant.List (sym c.as_slice.ensures)) c.requires))
 
 pub stm_in-read_in-requires : goal.stm_in-read_in-requires
-stm_in-read_in-requires t c = exact_parts sort.Statement (codes "read") (sort.Name ∷ []) _ refl (arm_fits sort.Statement (codes "read") _ _ _ c.split-word.ensures c.in-read.is (subst (FitsSort sort.Statement) (c.in-List.is ∙ ap variant.List (sym c.as_slice.ensures)) c.requires))
+stm_in-read_in-requires t c = exact_parts sort.Statement (codes "read") (sort.Name ∷ []) _ refl (arm_fits sort.Statement (codes "read") _ _ _ c.split.ensures c.in-read.is (subst (FitsSort sort.Statement) (c.in-List.is ∙ ap variant.List (sym c.as_slice.ensures)) c.requires))
 
 pub stm_in-write_in-requires : goal.stm_in-write_in-requires
-stm_in-write_in-requires t c = exact_parts sort.Statement (codes "write") (sort.Name ∷ sort.Expression ∷ []) _ refl (arm_fits sort.Statement (codes "write") _ _ _ c.split-word.ensures c.in-write.is (subst (FitsSort sort.Statement) (c.in-List.is ∙ ap variant.List (sym c.as_slice.ensures)) c.requires))
+stm_in-write_in-requires t c = exact_parts sort.Statement (codes "write") (sort.Name ∷ sort.Expression ∷ []) _ refl (arm_fits sort.Statement (codes "write") _ _ _ c.split.ensures c.in-write.is (subst (FitsSort sort.Statement) (c.in-List.is ∙ ap variant.List (sym c.as_slice.ensures)) c.requires))
 
 pub stm_in-load_in-requires : goal.stm_in-load_in-requires
-stm_in-load_in-requires t c = exact_parts sort.Statement (codes "load") (sort.Expression ∷ []) _ refl (arm_fits sort.Statement (codes "load") _ _ _ c.split-word.ensures c.in-load.is (subst (FitsSort sort.Statement) (c.in-List.is ∙ ap variant.List (sym c.as_slice.ensures)) c.requires))
+stm_in-load_in-requires t c = exact_parts sort.Statement (codes "load") (sort.Expression ∷ []) _ refl (arm_fits sort.Statement (codes "load") _ _ _ c.split.ensures c.in-load.is (subst (FitsSort sort.Statement) (c.in-List.is ∙ ap variant.List (sym c.as_slice.ensures)) c.requires))
 
 pub stm_in-store_in-requires : goal.stm_in-store_in-requires
-stm_in-store_in-requires t c = exact_parts sort.Statement (codes "store") (sort.Expression ∷ sort.Expression ∷ []) _ refl (arm_fits sort.Statement (codes "store") _ _ _ c.split-word.ensures c.in-store.is (subst (FitsSort sort.Statement) (c.in-List.is ∙ ap variant.List (sym c.as_slice.ensures)) c.requires))
+stm_in-store_in-requires t c = exact_parts sort.Statement (codes "store") (sort.Expression ∷ sort.Expression ∷ []) _ refl (arm_fits sort.Statement (codes "store") _ _ _ c.split.ensures c.in-store.is (subst (FitsSort sort.Statement) (c.in-List.is ∙ ap variant.List (sym c.as_slice.ensures)) c.requires))
 
 pub stm_in-call_in-requires : goal.stm_in-call_in-requires
-stm_in-call_in-requires t c = many_parts sort.Statement (codes "call") (sort.Name ∷ []) sort.Expression _ refl (arm_fits sort.Statement (codes "call") _ _ _ c.split-word.ensures c.in-call.is (subst (FitsSort sort.Statement) (c.in-List.is ∙ ap variant.List (sym c.as_slice.ensures)) c.requires))
+stm_in-call_in-requires t c = many_parts sort.Statement (codes "call") (sort.Name ∷ []) sort.Expression _ refl (arm_fits sort.Statement (codes "call") _ _ _ c.split.ensures c.in-call.is (subst (FitsSort sort.Statement) (c.in-List.is ∙ ap variant.List (sym c.as_slice.ensures)) c.requires))
 
 pub stm_in-check_in-requires : goal.stm_in-check_in-requires
-stm_in-check_in-requires t c = exact_parts sort.Statement (codes "check") (sort.Expression ∷ []) _ refl (arm_fits sort.Statement (codes "check") _ _ _ c.split-word.ensures c.in-check.is (subst (FitsSort sort.Statement) (c.in-List.is ∙ ap variant.List (sym c.as_slice.ensures)) c.requires))
+stm_in-check_in-requires t c = exact_parts sort.Statement (codes "check") (sort.Expression ∷ []) _ refl (arm_fits sort.Statement (codes "check") _ _ _ c.split.ensures c.in-check.is (subst (FitsSort sort.Statement) (c.in-List.is ∙ ap variant.List (sym c.as_slice.ensures)) c.requires))
 
 pub stm_in-open_in-requires : goal.stm_in-open_in-requires
-stm_in-open_in-requires t c = many_parts sort.Statement (codes "open") (sort.Name ∷ []) sort.Expression _ refl (arm_fits sort.Statement (codes "open") _ _ _ c.split-word.ensures c.in-open.is (subst (FitsSort sort.Statement) (c.in-List.is ∙ ap variant.List (sym c.as_slice.ensures)) c.requires))
+stm_in-open_in-requires t c = many_parts sort.Statement (codes "open") (sort.Name ∷ []) sort.Expression _ refl (arm_fits sort.Statement (codes "open") _ _ _ c.split.ensures c.in-open.is (subst (FitsSort sort.Statement) (c.in-List.is ∙ ap variant.List (sym c.as_slice.ensures)) c.requires))
 
 pub stm_in-close_in-requires : goal.stm_in-close_in-requires
-stm_in-close_in-requires t c = many_parts sort.Statement (codes "close") (sort.Name ∷ []) sort.Expression _ refl (arm_fits sort.Statement (codes "close") _ _ _ c.split-word.ensures c.in-close.is (subst (FitsSort sort.Statement) (c.in-List.is ∙ ap variant.List (sym c.as_slice.ensures)) c.requires))
+stm_in-close_in-requires t c = many_parts sort.Statement (codes "close") (sort.Name ∷ []) sort.Expression _ refl (arm_fits sort.Statement (codes "close") _ _ _ c.split.ensures c.in-close.is (subst (FitsSort sort.Statement) (c.in-List.is ∙ ap variant.List (sym c.as_slice.ensures)) c.requires))
 
 pub stm_in-lemma_in-requires : goal.stm_in-lemma_in-requires
-stm_in-lemma_in-requires t c = many_parts sort.Statement (codes "lemma") (sort.Name ∷ []) sort.Expression _ refl (arm_fits sort.Statement (codes "lemma") _ _ _ c.split-word.ensures c.in-lemma.is (subst (FitsSort sort.Statement) (c.in-List.is ∙ ap variant.List (sym c.as_slice.ensures)) c.requires))
+stm_in-lemma_in-requires t c = many_parts sort.Statement (codes "lemma") (sort.Name ∷ []) sort.Expression _ refl (arm_fits sort.Statement (codes "lemma") _ _ _ c.split.ensures c.in-lemma.is (subst (FitsSort sort.Statement) (c.in-List.is ∙ ap variant.List (sym c.as_slice.ensures)) c.requires))
 
 pub stms_in-stm_in-requires : goal.stms_in-stm_in-requires
 stms_in-stm_in-requires t c =
