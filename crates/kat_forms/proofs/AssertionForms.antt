@@ -190,14 +190,27 @@ ListOf w f = (ps : List Known) → FitsSort sort.Assertion (form w (trees ps)) �
 
 list_rows : AllByRecursion (λ (row : List ℕ × Form). ListOf row.0 row.1) assertions
 list_rows = (
-    λ ps fit. pure-from ps (exact_parts sort.Assertion (codes "pure") (sort.Expression ∷ []) (trees ps) refl fit),
-    (λ ps fit. register-from ps (exact_parts sort.Assertion (codes "reg") (sort.Name ∷ sort.Expression ∷ []) (trees ps) refl fit),
-    (λ ps fit. cell-from ps (exact_parts sort.Assertion (codes "cell") (sort.Expression ∷ sort.Expression ∷ []) (trees ps) refl fit),
-    (λ ps fit. star-from ps (many_parts sort.Assertion (codes "star") ([]) sort.Assertion (trees ps) refl fit),
-    (λ ps fit. if-from ps (exact_parts sort.Assertion (codes "if") (sort.Expression ∷ sort.Assertion ∷ sort.Assertion ∷ []) (trees ps) refl fit),
-    (λ ps fit. exists-from ps (exact_parts sort.Assertion (codes "exists") (sort.Param ∷ sort.Assertion ∷ []) (trees ps) refl fit),
-    (λ ps fit. predicate-from ps (many_parts sort.Assertion (codes "pred") (sort.Name ∷ []) sort.Expression (trees ps) refl fit),
-    (λ ps fit. region-from ps (many_parts sort.Assertion (codes "region") (sort.Name ∷ []) sort.Expression (trees ps) refl fit), tt))))))))
+  λ ps fit. pure-from ps (exact_parts sort.Assertion (codes "pure") (sort.Expression ∷ []) (trees ps) refl fit),
+  (
+    λ ps fit. register-from ps (exact_parts sort.Assertion (codes "reg") (sort.Name ∷ sort.Expression ∷ []) (trees ps) refl fit),
+    (
+      λ ps fit. cell-from ps (exact_parts sort.Assertion (codes "cell") (sort.Expression ∷ sort.Expression ∷ []) (trees ps) refl fit),
+      (
+        λ ps fit. star-from ps (many_parts sort.Assertion (codes "star") ([]) sort.Assertion (trees ps) refl fit),
+        (
+          λ ps fit. if-from ps (exact_parts sort.Assertion (codes "if") (sort.Expression ∷ sort.Assertion ∷ sort.Assertion ∷ []) (trees ps) refl fit),
+          (
+            λ ps fit. exists-from ps (exact_parts sort.Assertion (codes "exists") (sort.Param ∷ sort.Assertion ∷ []) (trees ps) refl fit),
+            (
+              λ ps fit. predicate-from ps (many_parts sort.Assertion (codes "pred") (sort.Name ∷ []) sort.Expression (trees ps) refl fit),
+              (λ ps fit. region-from ps (many_parts sort.Assertion (codes "region") (sort.Name ∷ []) sort.Expression (trees ps) refl fit), tt),
+            ),
+          ),
+        ),
+      ),
+    ),
+  ),
+)
 
 list_by : (w : List ℕ) (ps : List Known) (found : Option Form) → row_of assertions w ≡ found → FitsSort sort.Assertion (form w (trees ps)) →
     (x : Assertion) × IsAssertion (form w (trees ps)) x

@@ -351,7 +351,7 @@ memory-from (t0 ∷ t1 ∷ t2 ∷ t3 ∷ []) h =
     let v1 = number_of t1 h.fit.1.0 in
     let v2 = number_of t2 h.fit.1.1.0 in
     let v3 = number_of t3 h.fit.1.1.1.0 in
-    (decl.Memory v0.0 v1.0 v2.0 v3.0, Memory-is _ v0.0 v1.0 v2.0 v3.0 (same4 v0.1 v1.1 v2.1 v3.1) )
+    (decl.Memory v0.0 v1.0 v2.0 v3.0, Memory-is _ v0.0 v1.0 v2.0 v3.0 (same4 v0.1 v1.1 v2.1 v3.1))
 memory-from _ h = absurd (omega (arith, h.count))
 
 cells-from : (ts : List Tree) → FromParts (sort.CellsPlace ∷ sort.Number ∷ sort.Number ∷ []) (codes "cells") ts
@@ -359,7 +359,7 @@ cells-from (t0 ∷ t1 ∷ t2 ∷ []) h =
     let v0 = cells_kind_of t0 h.fit.0 in
     let v1 = number_of t1 h.fit.1.0 in
     let v2 = number_of t2 h.fit.1.1.0 in
-    (decl.Cells v0.0 v1.0 v2.0, Cells-is _ v0.0 v1.0 v2.0 (same3 v0.1 v1.1 v2.1) )
+    (decl.Cells v0.0 v1.0 v2.0, Cells-is _ v0.0 v1.0 v2.0 (same3 v0.1 v1.1 v2.1))
 cells-from _ h = absurd (omega (arith, h.count))
 
 region-from : (ts : List Tree) → FromParts (sort.Name ∷ sort.Params ∷ sort.Name ∷ sort.Expression ∷ []) (codes "region") ts
@@ -441,9 +441,11 @@ code-from : (ts : List Tree) → FromParts (sort.Number ∷ sort.Number ∷ repl
 code-from [] h = absurd h.fit
 code-from (t ∷ ts) h =
     let lo = number_of t h.fit.0 in
-    let ns = numbers_of ts (some_fit sort.Number (length (t ∷ ts) - 2) ts (record { count = let e = h.count in omega arith; fit = h.fit.1 })) in
-    (decl.Code lo.0 ns.0, Code-is _ lo.0 ns.0 (same_first lo.1 ns.1)
-      (some_made number ns.0 ts ns.1 (length (t ∷ ts) - 2) (omega (arith, h.count, length-replicate (length (t ∷ ts) - 2) sort.Number))))
+    let ns = numbers_of ts (some_fit sort.Number (length (t ∷ ts) - 2) ts (record { count = let e = h.count in omega arith; fit = h.fit.1 })) in (
+      decl.Code lo.0 ns.0,
+      Code-is _ lo.0 ns.0 (same_first lo.1 ns.1)
+          (some_made number ns.0 ts ns.1 (length (t ∷ ts) - 2) (omega (arith, h.count, length-replicate (length (t ∷ ts) - 2) sort.Number))),
+    )
 
 dispatch-from : (ts : List Tree) → FromParts (replicate (length ts - 1) sort.When ++ sort.Else ∷ []) (codes "dispatch") ts
 dispatch-from ts h =
@@ -451,10 +453,12 @@ dispatch-from ts h =
     let ws = whens_of (take n ts) (before_fits sort.When sort.Else n ts h) in
     let last = one_last sort.When sort.Else n ts h in
     let q = held_in sort.Else (codes "else") sort.Phase last.0 one_else no_else last.2 in
-    let p = phase_of q.0 q.2 in
-    (decl.Dispatch ws.0 p.0, Dispatch-is _ ws.0 p.0
-      (ap (λ us. us ++ form (codes "else") (tree_of_phase p.0 ∷ []) ∷ []) ws.1.0
-      ∙ ap (λ t. take n ts ++ t ∷ []) (ap (λ t. form (codes "else") (t ∷ [])) p.1.0 ∙ q.1) ∙ last.1) ws.1.1 p.1.1)
+    let p = phase_of q.0 q.2 in (
+      decl.Dispatch ws.0 p.0,
+      Dispatch-is _ ws.0 p.0
+          (ap (λ us. us ++ form (codes "else") (tree_of_phase p.0 ∷ []) ∷ []) ws.1.0
+          ∙ ap (λ t. take n ts ++ t ∷ []) (ap (λ t. form (codes "else") (t ∷ [])) p.1.0 ∙ q.1) ∙ last.1) ws.1.1 p.1.1,
+    )
 
 -- the form of a word
 abbrev DeclOf : List ℕ → Form → Type 0
@@ -462,23 +466,54 @@ DeclOf w f = (ts : List Tree) → FitsSort sort.Declaration (form w ts) → (d :
 
 decl_rows : AllByRecursion (λ (row : List ℕ × Form). DeclOf row.0 row.1) declarations
 decl_rows = (
-    λ ts fit. enum-from ts (exact_parts sort.Declaration (codes "enum") (sort.Name ∷ sort.Members ∷ []) ts refl fit),
-    (λ ts fit. union-from ts (exact_parts sort.Declaration (codes "union") (sort.Name ∷ sort.Fields ∷ []) ts refl fit),
-    (λ ts fit. record-from ts (exact_parts sort.Declaration (codes "record") (sort.Name ∷ sort.Fields ∷ []) ts refl fit),
-    (λ ts fit. register-from ts (exact_parts sort.Declaration (codes "register") (sort.Name ∷ sort.TypeName ∷ sort.RegisterPlace ∷ []) ts refl fit),
-    (λ ts fit. memory-from ts (exact_parts sort.Declaration (codes "memory") (sort.Number ∷ sort.Number ∷ sort.Number ∷ sort.Number ∷ []) ts refl fit),
-    (λ ts fit. cells-from ts (exact_parts sort.Declaration (codes "cells") (sort.CellsPlace ∷ sort.Number ∷ sort.Number ∷ []) ts refl fit),
-    (λ ts fit. code-from ts (many_parts sort.Declaration (codes "code") (sort.Number ∷ sort.Number ∷ []) sort.Number ts refl fit),
-    (λ ts fit. region-from ts (exact_parts sort.Declaration (codes "region") (sort.Name ∷ sort.Params ∷ sort.Name ∷ sort.Expression ∷ []) ts refl fit),
-    (λ ts fit. pred-from ts (exact_parts sort.Declaration (codes "pred") (sort.Name ∷ sort.Params ∷ sort.Params ∷ sort.Assertion ∷ []) ts refl fit),
-    (λ ts fit. fun-from ts (exact_parts sort.Declaration (codes "fun") (sort.Name ∷ sort.Params ∷ sort.TypeName ∷ sort.Statement ∷ []) ts refl fit),
-    (λ ts fit. contract-from ts (exact_parts sort.Declaration (codes "contract") (sort.Name ∷ sort.Params ∷ sort.Pre ∷ sort.Res ∷ sort.Post ∷ []) ts refl fit),
-    (λ ts fit. lemma-from ts (exact_parts sort.Declaration (codes "lemma") (sort.Name ∷ sort.Params ∷ sort.Params ∷ sort.Pre ∷ sort.Post ∷ sort.Steps ∷ []) ts refl fit),
-    (λ ts fit. step-from ts (exact_parts sort.Declaration (codes "step") (sort.Name ∷ []) ts refl fit),
-    (λ ts fit. dispatch-from ts (between_parts sort.Declaration (codes "dispatch") sort.When sort.Else ts refl fit),
-    (λ ts fit. untrusted-from ts (exact_parts sort.Declaration (codes "untrusted") (sort.Assertion ∷ []) ts refl fit),
-    (λ ts fit. block-from ts (exact_parts sort.Declaration (codes "block") (sort.Name ∷ sort.Entry ∷ sort.Within ∷ sort.Change ∷ []) ts refl fit),
-    (λ ts fit. boot-from ts (exact_parts sort.Declaration (codes "boot") (sort.Name ∷ []) ts refl fit), tt)))))))))))))))))
+  λ ts fit. enum-from ts (exact_parts sort.Declaration (codes "enum") (sort.Name ∷ sort.Members ∷ []) ts refl fit),
+  (
+    λ ts fit. union-from ts (exact_parts sort.Declaration (codes "union") (sort.Name ∷ sort.Fields ∷ []) ts refl fit),
+    (
+      λ ts fit. record-from ts (exact_parts sort.Declaration (codes "record") (sort.Name ∷ sort.Fields ∷ []) ts refl fit),
+      (
+        λ ts fit. register-from ts (exact_parts sort.Declaration (codes "register") (sort.Name ∷ sort.TypeName ∷ sort.RegisterPlace ∷ []) ts refl fit),
+        (
+          λ ts fit. memory-from ts (exact_parts sort.Declaration (codes "memory") (sort.Number ∷ sort.Number ∷ sort.Number ∷ sort.Number ∷ []) ts refl fit),
+          (
+            λ ts fit. cells-from ts (exact_parts sort.Declaration (codes "cells") (sort.CellsPlace ∷ sort.Number ∷ sort.Number ∷ []) ts refl fit),
+            (
+              λ ts fit. code-from ts (many_parts sort.Declaration (codes "code") (sort.Number ∷ sort.Number ∷ []) sort.Number ts refl fit),
+              (
+                λ ts fit. region-from ts (exact_parts sort.Declaration (codes "region") (sort.Name ∷ sort.Params ∷ sort.Name ∷ sort.Expression ∷ []) ts refl fit),
+                (
+                  λ ts fit. pred-from ts (exact_parts sort.Declaration (codes "pred") (sort.Name ∷ sort.Params ∷ sort.Params ∷ sort.Assertion ∷ []) ts refl fit),
+                  (
+                    λ ts fit. fun-from ts (exact_parts sort.Declaration (codes "fun") (sort.Name ∷ sort.Params ∷ sort.TypeName ∷ sort.Statement ∷ []) ts refl fit),
+                    (
+                      λ ts fit. contract-from ts (exact_parts sort.Declaration (codes "contract") (sort.Name ∷ sort.Params ∷ sort.Pre ∷ sort.Res ∷ sort.Post ∷ []) ts refl fit),
+                      (
+                        λ ts fit. lemma-from ts (exact_parts sort.Declaration (codes "lemma") (sort.Name ∷ sort.Params ∷ sort.Params ∷ sort.Pre ∷ sort.Post ∷ sort.Steps ∷ []) ts refl fit),
+                        (
+                          λ ts fit. step-from ts (exact_parts sort.Declaration (codes "step") (sort.Name ∷ []) ts refl fit),
+                          (
+                            λ ts fit. dispatch-from ts (between_parts sort.Declaration (codes "dispatch") sort.When sort.Else ts refl fit),
+                            (
+                              λ ts fit. untrusted-from ts (exact_parts sort.Declaration (codes "untrusted") (sort.Assertion ∷ []) ts refl fit),
+                              (
+                                λ ts fit. block-from ts (exact_parts sort.Declaration (codes "block") (sort.Name ∷ sort.Entry ∷ sort.Within ∷ sort.Change ∷ []) ts refl fit),
+                                (λ ts fit. boot-from ts (exact_parts sort.Declaration (codes "boot") (sort.Name ∷ []) ts refl fit), tt),
+                              ),
+                            ),
+                          ),
+                        ),
+                      ),
+                    ),
+                  ),
+                ),
+              ),
+            ),
+          ),
+        ),
+      ),
+    ),
+  ),
+)
 
 decl_by : (w : List ℕ) (ts : List Tree) (found : Option Form) → row_of declarations w ≡ found → FitsSort sort.Declaration (form w ts) →
     (d : DeclForm) × IsDeclForm (form w ts) d

@@ -330,7 +330,7 @@ bits-from : (ps : List Known) → HasParts (sort.Number ∷ sort.Number ∷ []) 
 bits-from (p0 ∷ p1 ∷ []) h =
     let v0 = number_of p0.0 h.fit.0 in
     let v1 = number_of p1.0 h.fit.1.0 in
-    (made.Bits v0.0 v1.0, Bits-is _ v0.0 v1.0 (same2 v0.1 v1.1) )
+    (made.Bits v0.0 v1.0, Bits-is _ v0.0 v1.0 (same2 v0.1 v1.1))
 bits-from _ h = absurd (omega (arith, h.count))
 
 of-from : (ps : List Known) → HasParts (sort.Name ∷ sort.Name ∷ []) (trees ps) → (x : Expr) × IsExpr (form (codes "of") (trees ps)) x
@@ -381,19 +381,19 @@ after-from _ h = absurd (omega (arith, h.count))
 keptCell-from : (ps : List Known) → HasParts (sort.Number ∷ []) (trees ps) → (x : Expr) × IsExpr (form (codes "kept_cell") (trees ps)) x
 keptCell-from (p0 ∷ []) h =
     let v0 = number_of p0.0 h.fit.0 in
-    (made.KeptCell v0.0, KeptCell-is _ v0.0 (same1 v0.1) )
+    (made.KeptCell v0.0, KeptCell-is _ v0.0 (same1 v0.1))
 keptCell-from _ h = absurd (omega (arith, h.count))
 
 beforeCell-from : (ps : List Known) → HasParts (sort.Number ∷ []) (trees ps) → (x : Expr) × IsExpr (form (codes "before_cell") (trees ps)) x
 beforeCell-from (p0 ∷ []) h =
     let v0 = number_of p0.0 h.fit.0 in
-    (made.BeforeCell v0.0, BeforeCell-is _ v0.0 (same1 v0.1) )
+    (made.BeforeCell v0.0, BeforeCell-is _ v0.0 (same1 v0.1))
 beforeCell-from _ h = absurd (omega (arith, h.count))
 
 afterCell-from : (ps : List Known) → HasParts (sort.Number ∷ []) (trees ps) → (x : Expr) × IsExpr (form (codes "after_cell") (trees ps)) x
 afterCell-from (p0 ∷ []) h =
     let v0 = number_of p0.0 h.fit.0 in
-    (made.AfterCell v0.0, AfterCell-is _ v0.0 (same1 v0.1) )
+    (made.AfterCell v0.0, AfterCell-is _ v0.0 (same1 v0.1))
 afterCell-from _ h = absurd (omega (arith, h.count))
 
 get-from : (ps : List Known) → HasParts (sort.Name ∷ sort.Name ∷ sort.Expression ∷ []) (trees ps) → (x : Expr) × IsExpr (form (codes "get") (trees ps)) x
@@ -428,9 +428,11 @@ sext-from _ h = absurd (omega (arith, h.count))
 
 bare-from : (w : List ℕ) (o : Op) → IsBare w o → (ps : List Known) → HasParts (replicate (arity_of o) sort.Expression) (trees ps) → (x : Expr) × IsExpr (form w (trees ps)) x
 bare-from w o bare ps h =
-    let es = exprs_from ps (all_same sort.Expression (arity_of o) (trees ps) h.fit) in
-    (made.Apply o es.0, Apply-is o es.0 w (trees ps) (trees ps) bare.word_is bare.written
-      (h.count ∙ length-replicate (arity_of o) sort.Expression) es.1.0 es.1.1 (ap (λ ns. ns ++ trees ps) bare.alone))
+    let es = exprs_from ps (all_same sort.Expression (arity_of o) (trees ps) h.fit) in (
+      made.Apply o es.0,
+      Apply-is o es.0 w (trees ps) (trees ps) bare.word_is bare.written
+          (h.count ∙ length-replicate (arity_of o) sort.Expression) es.1.0 es.1.1 (ap (λ ns. ns ++ trees ps) bare.alone),
+    )
 
 -- the form of a word
 abbrev ListOf : List ℕ → Form → Type 0
@@ -443,41 +445,108 @@ bare_list o bare ps fit =
 
 list_rows : AllByRecursion (λ (row : List ℕ × Form). ListOf row.0 row.1) expressions
 list_rows = (
-    λ ps fit. bits-from ps (exact_parts sort.Expression (codes "bits") (sort.Number ∷ sort.Number ∷ []) (trees ps) refl fit),
-    (λ ps fit. of-from ps (exact_parts sort.Expression (codes "of") (sort.Name ∷ sort.Name ∷ []) (trees ps) refl fit),
-    (λ ps fit. make-from ps (exact_parts sort.Expression (codes "make") (sort.Name ∷ sort.Expression ∷ []) (trees ps) refl fit),
-    (λ ps fit. rec-from ps (many_parts sort.Expression (codes "rec") (sort.Name ∷ []) sort.Expression (trees ps) refl fit),
-    (λ ps fit. register-from ps (exact_parts sort.Expression (codes "reg") (sort.Name ∷ []) (trees ps) refl fit),
-    (λ ps fit. kept-from ps (exact_parts sort.Expression (codes "kept") (sort.Name ∷ []) (trees ps) refl fit),
-    (λ ps fit. keptCell-from ps (exact_parts sort.Expression (codes "kept_cell") (sort.Number ∷ []) (trees ps) refl fit),
-    (λ ps fit. before-from ps (exact_parts sort.Expression (codes "before") (sort.Name ∷ []) (trees ps) refl fit),
-    (λ ps fit. after-from ps (exact_parts sort.Expression (codes "after") (sort.Name ∷ []) (trees ps) refl fit),
-    (λ ps fit. beforeCell-from ps (exact_parts sort.Expression (codes "before_cell") (sort.Number ∷ []) (trees ps) refl fit),
-    (λ ps fit. afterCell-from ps (exact_parts sort.Expression (codes "after_cell") (sort.Number ∷ []) (trees ps) refl fit),
-    (λ ps fit. get-from ps (exact_parts sort.Expression (codes "get") (sort.Name ∷ sort.Name ∷ sort.Expression ∷ []) (trees ps) refl fit),
-    (λ ps fit. slice-from ps (exact_parts sort.Expression (codes "slice") (sort.Number ∷ sort.Number ∷ sort.Expression ∷ []) (trees ps) refl fit),
-    (λ ps fit. zext-from ps (exact_parts sort.Expression (codes "zext") (sort.Number ∷ sort.Expression ∷ []) (trees ps) refl fit),
-    (λ ps fit. sext-from ps (exact_parts sort.Expression (codes "sext") (sort.Number ∷ sort.Expression ∷ []) (trees ps) refl fit),
-    (bare_list op.Not (record { word_is = refl; alone = refl; written = refl; formed = refl }),
-    (bare_list op.And (record { word_is = refl; alone = refl; written = refl; formed = refl }),
-    (bare_list op.Or (record { word_is = refl; alone = refl; written = refl; formed = refl }),
-    (bare_list op.Eq (record { word_is = refl; alone = refl; written = refl; formed = refl }),
-    (bare_list op.Ult (record { word_is = refl; alone = refl; written = refl; formed = refl }),
-    (bare_list op.Ule (record { word_is = refl; alone = refl; written = refl; formed = refl }),
-    (bare_list op.Slt (record { word_is = refl; alone = refl; written = refl; formed = refl }),
-    (bare_list op.Sle (record { word_is = refl; alone = refl; written = refl; formed = refl }),
-    (bare_list op.Add (record { word_is = refl; alone = refl; written = refl; formed = refl }),
-    (bare_list op.Sub (record { word_is = refl; alone = refl; written = refl; formed = refl }),
-    (bare_list op.Mul (record { word_is = refl; alone = refl; written = refl; formed = refl }),
-    (bare_list op.Band (record { word_is = refl; alone = refl; written = refl; formed = refl }),
-    (bare_list op.Bor (record { word_is = refl; alone = refl; written = refl; formed = refl }),
-    (bare_list op.Bxor (record { word_is = refl; alone = refl; written = refl; formed = refl }),
-    (bare_list op.Bnot (record { word_is = refl; alone = refl; written = refl; formed = refl }),
-    (bare_list op.Shl (record { word_is = refl; alone = refl; written = refl; formed = refl }),
-    (bare_list op.Shr (record { word_is = refl; alone = refl; written = refl; formed = refl }),
-    (bare_list op.Sar (record { word_is = refl; alone = refl; written = refl; formed = refl }),
-    (bare_list op.Cat (record { word_is = refl; alone = refl; written = refl; formed = refl }),
-    (bare_list op.Ite (record { word_is = refl; alone = refl; written = refl; formed = refl }), tt)))))))))))))))))))))))))))))))))))
+  λ ps fit. bits-from ps (exact_parts sort.Expression (codes "bits") (sort.Number ∷ sort.Number ∷ []) (trees ps) refl fit),
+  (
+    λ ps fit. of-from ps (exact_parts sort.Expression (codes "of") (sort.Name ∷ sort.Name ∷ []) (trees ps) refl fit),
+    (
+      λ ps fit. make-from ps (exact_parts sort.Expression (codes "make") (sort.Name ∷ sort.Expression ∷ []) (trees ps) refl fit),
+      (
+        λ ps fit. rec-from ps (many_parts sort.Expression (codes "rec") (sort.Name ∷ []) sort.Expression (trees ps) refl fit),
+        (
+          λ ps fit. register-from ps (exact_parts sort.Expression (codes "reg") (sort.Name ∷ []) (trees ps) refl fit),
+          (
+            λ ps fit. kept-from ps (exact_parts sort.Expression (codes "kept") (sort.Name ∷ []) (trees ps) refl fit),
+            (
+              λ ps fit. keptCell-from ps (exact_parts sort.Expression (codes "kept_cell") (sort.Number ∷ []) (trees ps) refl fit),
+              (
+                λ ps fit. before-from ps (exact_parts sort.Expression (codes "before") (sort.Name ∷ []) (trees ps) refl fit),
+                (
+                  λ ps fit. after-from ps (exact_parts sort.Expression (codes "after") (sort.Name ∷ []) (trees ps) refl fit),
+                  (
+                    λ ps fit. beforeCell-from ps (exact_parts sort.Expression (codes "before_cell") (sort.Number ∷ []) (trees ps) refl fit),
+                    (
+                      λ ps fit. afterCell-from ps (exact_parts sort.Expression (codes "after_cell") (sort.Number ∷ []) (trees ps) refl fit),
+                      (
+                        λ ps fit. get-from ps (exact_parts sort.Expression (codes "get") (sort.Name ∷ sort.Name ∷ sort.Expression ∷ []) (trees ps) refl fit),
+                        (
+                          λ ps fit. slice-from ps (exact_parts sort.Expression (codes "slice") (sort.Number ∷ sort.Number ∷ sort.Expression ∷ []) (trees ps) refl fit),
+                          (
+                            λ ps fit. zext-from ps (exact_parts sort.Expression (codes "zext") (sort.Number ∷ sort.Expression ∷ []) (trees ps) refl fit),
+                            (
+                              λ ps fit. sext-from ps (exact_parts sort.Expression (codes "sext") (sort.Number ∷ sort.Expression ∷ []) (trees ps) refl fit),
+                              (
+                                bare_list op.Not (record { word_is = refl; alone = refl; written = refl; formed = refl }),
+                                (
+                                  bare_list op.And (record { word_is = refl; alone = refl; written = refl; formed = refl }),
+                                  (
+                                    bare_list op.Or (record { word_is = refl; alone = refl; written = refl; formed = refl }),
+                                    (
+                                      bare_list op.Eq (record { word_is = refl; alone = refl; written = refl; formed = refl }),
+                                      (
+                                        bare_list op.Ult (record { word_is = refl; alone = refl; written = refl; formed = refl }),
+                                        (
+                                          bare_list op.Ule (record { word_is = refl; alone = refl; written = refl; formed = refl }),
+                                          (
+                                            bare_list op.Slt (record { word_is = refl; alone = refl; written = refl; formed = refl }),
+                                            (
+                                              bare_list op.Sle (record { word_is = refl; alone = refl; written = refl; formed = refl }),
+                                              (
+                                                bare_list op.Add (record { word_is = refl; alone = refl; written = refl; formed = refl }),
+                                                (
+                                                  bare_list op.Sub (record { word_is = refl; alone = refl; written = refl; formed = refl }),
+                                                  (
+                                                    bare_list op.Mul (record { word_is = refl; alone = refl; written = refl; formed = refl }),
+                                                    (
+                                                      bare_list op.Band (record { word_is = refl; alone = refl; written = refl; formed = refl }),
+                                                      (
+                                                        bare_list op.Bor (record { word_is = refl; alone = refl; written = refl; formed = refl }),
+                                                        (
+                                                          bare_list op.Bxor (record { word_is = refl; alone = refl; written = refl; formed = refl }),
+                                                          (
+                                                            bare_list op.Bnot (record { word_is = refl; alone = refl; written = refl; formed = refl }),
+                                                            (
+                                                              bare_list op.Shl (record { word_is = refl; alone = refl; written = refl; formed = refl }),
+                                                              (
+                                                                bare_list op.Shr (record { word_is = refl; alone = refl; written = refl; formed = refl }),
+                                                                (
+                                                                  bare_list op.Sar (record { word_is = refl; alone = refl; written = refl; formed = refl }),
+                                                                  (
+                                                                    bare_list op.Cat (record { word_is = refl; alone = refl; written = refl; formed = refl }),
+                                                                    (bare_list op.Ite (record { word_is = refl; alone = refl; written = refl; formed = refl }), tt),
+                                                                  ),
+                                                                ),
+                                                              ),
+                                                            ),
+                                                          ),
+                                                        ),
+                                                      ),
+                                                    ),
+                                                  ),
+                                                ),
+                                              ),
+                                            ),
+                                          ),
+                                        ),
+                                      ),
+                                    ),
+                                  ),
+                                ),
+                              ),
+                            ),
+                          ),
+                        ),
+                      ),
+                    ),
+                  ),
+                ),
+              ),
+            ),
+          ),
+        ),
+      ),
+    ),
+  ),
+)
 
 list_by : (w : List ℕ) (ps : List Known) (found : Option Form) → row_of expressions w ≡ found → FitsSort sort.Expression (form w (trees ps)) →
     (x : Expr) × IsExpr (form w (trees ps)) x

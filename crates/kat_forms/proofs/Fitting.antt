@@ -285,8 +285,8 @@ module _ (s : Sort) (w : List ℕ) (f : Form) (has : HasOneForm s w f) where
   word_by : (x : List ℕ) (parts : List Tree) (b : Bool) → bytes_eq x w ≡ b → FitsSort s (form x parts) → x ≡ w
   word_by x parts true e fit = (bytes_eq-Decides x w).0 e
   word_by x parts false e fit = absurd (no_form s x parts (
-    has.some x ∙ ap (λ rows. option_and_then (form_in newest) (row_of rows x)) has.rows
-    ∙ ap (λ b. option_and_then (form_in newest) (if b then Some f else None)) e) fit)
+      has.some x ∙ ap (λ rows. option_and_then (form_in newest) (row_of rows x)) has.rows
+      ∙ ap (λ b. option_and_then (form_in newest) (if b then Some f else None)) e) fit)
 
   -- its word
   pub one_word : (x : List ℕ) (parts : List Tree) → FitsSort s (form x parts) → x ≡ w

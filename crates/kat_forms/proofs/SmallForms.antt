@@ -271,14 +271,20 @@ pub fields_of : (t : Tree) → FitsSort sort.Fields t → (ps : List Param) × (
 fields_of t fit =
     let list = is_list sort.Fields t (record { numbers = λ n. refl; names = λ x. refl }) fit in
     let has = many_place sort.Fields (sort.Param ∷ []) sort.Param list.0 (λ found. refl) (subst (FitsSort sort.Fields) list.1 fit) in
-    let ps = each_param_of list.0 (some_fit sort.Param (length list.0 - 1) list.0 has) in
-    (ps.0, ap variant.List ps.1.0 ∙ sym list.1,
-      some_made tree_of_param ps.0 list.0 ps.1.0 (length list.0 - 1) (omega (arith, has.count, length-replicate (length list.0 - 1) sort.Param)), ps.1.1)
+    let ps = each_param_of list.0 (some_fit sort.Param (length list.0 - 1) list.0 has) in (
+      ps.0,
+      ap variant.List ps.1.0 ∙ sym list.1,
+      some_made tree_of_param ps.0 list.0 ps.1.0 (length list.0 - 1) (omega (arith, has.count, length-replicate (length list.0 - 1) sort.Param)),
+      ps.1.1,
+    )
 
 pub members_of : (t : Tree) → FitsSort sort.Members t → (xs : List (List ℕ)) × (variant.List (map word xs) ≡ t) × (is_some xs ≡ true) × (every (map is_name xs) ≡ true)
 members_of t fit =
     let list = is_list sort.Members t (record { numbers = λ n. refl; names = λ x. refl }) fit in
     let has = many_place sort.Members (sort.Name ∷ []) sort.Name list.0 (λ found. refl) (subst (FitsSort sort.Members) list.1 fit) in
-    let xs = names_of list.0 (some_fit sort.Name (length list.0 - 1) list.0 has) in
-    (xs.0, ap variant.List xs.1.0 ∙ sym list.1,
-      some_made word xs.0 list.0 xs.1.0 (length list.0 - 1) (omega (arith, has.count, length-replicate (length list.0 - 1) sort.Name)), xs.1.1)
+    let xs = names_of list.0 (some_fit sort.Name (length list.0 - 1) list.0 has) in (
+      xs.0,
+      ap variant.List xs.1.0 ∙ sym list.1,
+      some_made word xs.0 list.0 xs.1.0 (length list.0 - 1) (omega (arith, has.count, length-replicate (length list.0 - 1) sort.Name)),
+      xs.1.1,
+    )

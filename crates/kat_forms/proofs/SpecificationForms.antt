@@ -103,11 +103,13 @@ spec_of tree fit text =
     let list = is_list sort.Spec tree (record { numbers = λ n. refl; names = λ x. refl }) fit in
     let found = spec_parts list.0 (subst (FitsSort sort.Spec) list.1 fit) in
     let all = subst (AllByRecursion IsPartOfText) found.1 (text list.0 list.1) in
-    let ds = decls_of found.0 found.2 all.1.1 in
-    (record { version = 1; decls = ds.0 }, record {
-      tree_is = list.1 ∙ ap variant.List found.1 ∙ ap (λ ts. form (codes "spec") (number 1 ∷ ts)) (sym ds.1);
-      kept = record { version = refl; decls = ds.2 };
-    })
+    let ds = decls_of found.0 found.2 all.1.1 in (
+      record { version = 1; decls = ds.0 },
+      record {
+        tree_is = list.1 ∙ ap variant.List found.1 ∙ ap (λ ts. form (codes "spec") (number 1 ∷ ts)) (sym ds.1);
+        kept = record { version = refl; decls = ds.2 };
+      },
+    )
 
 pub decl_described : (tree : Tree) → FitsSort sort.Declaration tree → IsPartOfText tree → (d : DeclForm) × DescribesDecl tree d
 decl_described tree fit text = let d = decl_of tree fit in (d.0, describes_decl tree d.0 d.1 text)

@@ -269,9 +269,10 @@ case_arm-from _ h = absurd (omega (arith, h.count))
 
 match_arm-from : (ps : List Known) → HasParts (sort.Name ∷ sort.Name ∷ sort.Statement ∷ []) (trees ps) → (arm : MatchArm Stm) × IsMatchArm (variant.List (trees ps)) arm
 match_arm-from (p0 ∷ p1 ∷ p2 ∷ []) h =
-    let x = name_of p0.0 h.fit.0 in let y = name_of p1.0 h.fit.1.0 in let s = p2.1.stm h.fit.1.1.0 in
-    (record { ctor = x.0; payload = y.0; body = s.0 },
-      (ap variant.List (same3 x.1.0 y.1.0 s.1.0), both (is_name x.0) (is_name y.0 && is_formed_stm s.0) x.1.1 (both (is_name y.0) (is_formed_stm s.0) y.1.1 s.1.1)))
+    let x = name_of p0.0 h.fit.0 in let y = name_of p1.0 h.fit.1.0 in let s = p2.1.stm h.fit.1.1.0 in (
+      record { ctor = x.0; payload = y.0; body = s.0 },
+      (ap variant.List (same3 x.1.0 y.1.0 s.1.0), both (is_name x.0) (is_name y.0 && is_formed_stm s.0) x.1.1 (both (is_name y.0) (is_formed_stm s.0) y.1.1 s.1.1)),
+    )
 match_arm-from _ h = absurd (omega (arith, h.count))
 
 ret-from : (ps : List Known) → HasParts (sort.Expression ∷ []) (trees ps) → (x : Stm) × IsStm (form (codes "ret") (trees ps)) x
@@ -385,22 +386,51 @@ ListOf w f = (ps : List Known) → FitsSort sort.Statement (form w (trees ps)) �
 
 list_rows : AllByRecursion (λ (row : List ℕ × Form). ListOf row.0 row.1) statements
 list_rows = (
-    λ ps fit. ret-from ps (exact_parts sort.Statement (codes "ret") (sort.Expression ∷ []) (trees ps) refl fit),
-    (λ ps fit. let-from ps (exact_parts sort.Statement (codes "let") (sort.Name ∷ sort.Statement ∷ sort.Statement ∷ []) (trees ps) refl fit),
-    (λ ps fit. seq-from ps (many_parts sort.Statement (codes "seq") (sort.Statement ∷ []) sort.Statement (trees ps) refl fit),
-    (λ ps fit. if-from ps (exact_parts sort.Statement (codes "if") (sort.Expression ∷ sort.Statement ∷ sort.Statement ∷ []) (trees ps) refl fit),
-    (λ ps fit. case-from ps (many_parts sort.Statement (codes "case") (sort.Expression ∷ []) sort.CaseArm (trees ps) refl fit),
-    (λ ps fit. match-from ps (many_parts sort.Statement (codes "match") (sort.Expression ∷ []) sort.MatchArm (trees ps) refl fit),
-    (λ ps fit. read-from ps (exact_parts sort.Statement (codes "read") (sort.Name ∷ []) (trees ps) refl fit),
-    (λ ps fit. write-from ps (exact_parts sort.Statement (codes "write") (sort.Name ∷ sort.Expression ∷ []) (trees ps) refl fit),
-    (λ ps fit. load-from ps (exact_parts sort.Statement (codes "load") (sort.Expression ∷ []) (trees ps) refl fit),
-    (λ ps fit. store-from ps (exact_parts sort.Statement (codes "store") (sort.Expression ∷ sort.Expression ∷ []) (trees ps) refl fit),
-    (λ ps fit. call-from ps (many_parts sort.Statement (codes "call") (sort.Name ∷ []) sort.Expression (trees ps) refl fit),
-    (λ ps fit. check-from ps (exact_parts sort.Statement (codes "check") (sort.Expression ∷ []) (trees ps) refl fit),
-    (λ ps fit. fail-from ps (exact_parts sort.Statement (codes "fail") [] (trees ps) refl fit),
-    (λ ps fit. open-from ps (many_parts sort.Statement (codes "open") (sort.Name ∷ []) sort.Expression (trees ps) refl fit),
-    (λ ps fit. close-from ps (many_parts sort.Statement (codes "close") (sort.Name ∷ []) sort.Expression (trees ps) refl fit),
-    (λ ps fit. lemma-from ps (many_parts sort.Statement (codes "lemma") (sort.Name ∷ []) sort.Expression (trees ps) refl fit), tt))))))))))))))))
+  λ ps fit. ret-from ps (exact_parts sort.Statement (codes "ret") (sort.Expression ∷ []) (trees ps) refl fit),
+  (
+    λ ps fit. let-from ps (exact_parts sort.Statement (codes "let") (sort.Name ∷ sort.Statement ∷ sort.Statement ∷ []) (trees ps) refl fit),
+    (
+      λ ps fit. seq-from ps (many_parts sort.Statement (codes "seq") (sort.Statement ∷ []) sort.Statement (trees ps) refl fit),
+      (
+        λ ps fit. if-from ps (exact_parts sort.Statement (codes "if") (sort.Expression ∷ sort.Statement ∷ sort.Statement ∷ []) (trees ps) refl fit),
+        (
+          λ ps fit. case-from ps (many_parts sort.Statement (codes "case") (sort.Expression ∷ []) sort.CaseArm (trees ps) refl fit),
+          (
+            λ ps fit. match-from ps (many_parts sort.Statement (codes "match") (sort.Expression ∷ []) sort.MatchArm (trees ps) refl fit),
+            (
+              λ ps fit. read-from ps (exact_parts sort.Statement (codes "read") (sort.Name ∷ []) (trees ps) refl fit),
+              (
+                λ ps fit. write-from ps (exact_parts sort.Statement (codes "write") (sort.Name ∷ sort.Expression ∷ []) (trees ps) refl fit),
+                (
+                  λ ps fit. load-from ps (exact_parts sort.Statement (codes "load") (sort.Expression ∷ []) (trees ps) refl fit),
+                  (
+                    λ ps fit. store-from ps (exact_parts sort.Statement (codes "store") (sort.Expression ∷ sort.Expression ∷ []) (trees ps) refl fit),
+                    (
+                      λ ps fit. call-from ps (many_parts sort.Statement (codes "call") (sort.Name ∷ []) sort.Expression (trees ps) refl fit),
+                      (
+                        λ ps fit. check-from ps (exact_parts sort.Statement (codes "check") (sort.Expression ∷ []) (trees ps) refl fit),
+                        (
+                          λ ps fit. fail-from ps (exact_parts sort.Statement (codes "fail") [] (trees ps) refl fit),
+                          (
+                            λ ps fit. open-from ps (many_parts sort.Statement (codes "open") (sort.Name ∷ []) sort.Expression (trees ps) refl fit),
+                            (
+                              λ ps fit. close-from ps (many_parts sort.Statement (codes "close") (sort.Name ∷ []) sort.Expression (trees ps) refl fit),
+                              (λ ps fit. lemma-from ps (many_parts sort.Statement (codes "lemma") (sort.Name ∷ []) sort.Expression (trees ps) refl fit), tt),
+                            ),
+                          ),
+                        ),
+                      ),
+                    ),
+                  ),
+                ),
+              ),
+            ),
+          ),
+        ),
+      ),
+    ),
+  ),
+)
 
 list_by : (w : List ℕ) (ps : List Known) (found : Option Form) → row_of statements w ≡ found → FitsSort sort.Statement (form w (trees ps)) →
     (x : Stm) × IsStm (form w (trees ps)) x

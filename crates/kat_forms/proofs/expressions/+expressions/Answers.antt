@@ -70,7 +70,7 @@ pub operation_in-exprs_in-requires : goal.operation_in-exprs_in-requires
 operation_in-exprs_in-requires t c = (
   omega arith,
   all_same sort.Expression (arity_of c.in-Some.op) c.args.parts.now
-  (arguments_fit c.args.word.now c.in-Some.op c.args.parts.now c.requires.0.none (sym c.op_of_word.ensures ∙ c.in-Some.is) c.requires.0.fits).fit,
+      (arguments_fit c.args.word.now c.in-Some.op c.args.parts.now c.requires.0.none (sym c.op_of_word.ensures ∙ c.in-Some.is) c.requires.0.fits).fit,
 )
 
 pub operation_in-returns : goal.operation_in-returns

@@ -106,8 +106,14 @@ case_arms_in-stm_in-requires t c =
     let is = c.in-List.is ∙ ap variant.List (sym c.as_slice.ensures) in
     let fit = one_of (FitsSort sort.CaseArm) trees c.loop-tree.tree-index tree c.requires (omega arith) c.tree-item.is in
     let has = exact_place sort.CaseArm (sort.Name ∷ sort.Statement ∷ []) parts (λ found. refl) (subst (FitsSort sort.CaseArm) is fit) in (
-      omega (arith, c.decreases, part_among trees c.loop-tree.tree-index tree (omega arith) c.tree-item.is, ap count_of is, count-List parts,
-      part_among parts 1 c.body-item.result (omega arith) c.body-item.is),
+      omega (
+        arith,
+        c.decreases,
+        part_among trees c.loop-tree.tree-index tree (omega arith) c.tree-item.is,
+        ap count_of is,
+        count-List parts,
+        part_among parts 1 c.body-item.result (omega arith) c.body-item.is,
+      ),
       part_fits (sort.Name ∷ sort.Statement ∷ []) parts 1 c.body-item.result has (omega arith) c.body-item.is,
     )
 
@@ -128,8 +134,14 @@ match_arms_in-stm_in-requires t c =
     let is = c.in-List.is ∙ ap variant.List (sym c.as_slice.ensures) in
     let fit = one_of (FitsSort sort.MatchArm) trees c.loop-tree.tree-index tree c.requires (omega arith) c.tree-item.is in
     let has = exact_place sort.MatchArm (sort.Name ∷ sort.Name ∷ sort.Statement ∷ []) parts (λ found. refl) (subst (FitsSort sort.MatchArm) is fit) in (
-      omega (arith, c.decreases, part_among trees c.loop-tree.tree-index tree (omega arith) c.tree-item.is, ap count_of is, count-List parts,
-      part_among parts 2 c.body-item.result (omega arith) c.body-item.is),
+      omega (
+        arith,
+        c.decreases,
+        part_among trees c.loop-tree.tree-index tree (omega arith) c.tree-item.is,
+        ap count_of is,
+        count-List parts,
+        part_among parts 2 c.body-item.result (omega arith) c.body-item.is,
+      ),
       part_fits (sort.Name ∷ sort.Name ∷ sort.Statement ∷ []) parts 2 c.body-item.result has (omega arith) c.body-item.is,
     )
 
