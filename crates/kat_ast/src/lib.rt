@@ -13,7 +13,6 @@ mod limits;
 mod place;
 mod stm;
 mod type_name;
-mod wanted;
 
 pub use assertion::Assertion;
 pub use decl::{Block, CellsKind, Decl, DeclForm, Phase, RegisterKind, Spec, When};
@@ -24,4 +23,3 @@ pub use limits::{DECL_TREES_BOUND, DEEPEST_DECL, THE_VERSION};
 pub use place::Place;
 pub use stm::{CaseArm, MatchArm, Stm, count_stm};
 pub use type_name::{Param, TypeName, count_params, count_type};
-pub use wanted::Wanted;

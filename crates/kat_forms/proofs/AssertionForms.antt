@@ -1,85 +1,234 @@
--- Each form of an assertion: its tree and what it owes, by its parts'; and how it is told from its parts.
-use Rattle.std.proofs.Common.{◌≡◌, ℕ, Bool, true, false, ◌&&◌, List, [], ◌∷◌, length, map, Some, refl, ap, sym, ◌∙◌}
-use Rattle.std.specs.Prelude.{codes}
+-- Assertions: what fits is one, form by form, and the tree of one fits.
+use Rattle.std.proofs.Common.{◌≡◌, ℕ, Bool, ◌+◌, ◌-◌, List, [], ◌∷◌, ◌++◌, ◌&&◌, length, map, true, false, Option, Some, None, refl, ap, sym, subst, ◌∙◌, arith}
+use Rattle.std.specs.Prelude.{codes, replicate}
+use Rattle.std.specs.List.{AllByRecursion}
+use Rattle.kat_tree.specs.declared.tree.Token.{Token}
+use Rattle.kat_tree.specs.declared.tree.Tree.TheVariants.{rolls-Atom, rolls-List}
+use Rattle.kat_tree.specs.declared.tree.Tree.TheOpen.{Tree-F}
+use Rattle.kat_tree.specs.declared.tree.Tree.TheViews.{roll-Tree}
+use Rattle.kat_tree.specs.declared.tree.Tree.TheFolds.{map-Tree, ind-Tree}
+use Rattle.std.specs.Option.{option_and_then}
+use Rattle.kat_tree.specs.declared.tree.Token.TheVariants as token
 use Rattle.kat_tree.specs.declared.tree.Tree.{Tree}
 use Rattle.kat_tree.specs.declared.tree.Tree.TheVariants as variant
-use Rattle.kat_ast.specs.declared.type_name.TypeName.{TypeName}
+use Rattle.kat_shapes.specs.declared.sort.Sort.{Sort}
+use Rattle.kat_shapes.specs.declared.sort.Sort.TheVariants as sort
 use Rattle.kat_ast.specs.declared.expr.Expr.{Expr}
 use Rattle.kat_ast.specs.declared.assertion.Assertion.{Assertion}
-use Rattle.kat_ast.specs.declared.assertion.Assertion.TheVariants as assertion
+use Rattle.kat_ast.specs.declared.type_name.TypeName.{TypeName}
+use Rattle.kat_ast.specs.declared.assertion.Assertion.TheVariants as made
 use Rattle.kat_ast.specs.declared.assertion.Assertion.TheVariants.{rolls-Pure, rolls-Register, rolls-Cell, rolls-Star, rolls-If, rolls-Exists, rolls-Predicate, rolls-Region}
 use Rattle.kat_ast.specs.declared.assertion.Assertion.TheOpen as layer
-use Rattle.kat_ast.specs.declared.assertion.Assertion.TheFolds.{fold-roll-Assertion}
-use Rattle.kat_ast.specs.Parts.{is_name, every, word, form}
-use Rattle.kat_ast.specs.Types.{is_formed_type, tree_of_param}
-use Rattle.kat_ast.specs.Expressions.{is_formed_expr, are_formed_exprs, tree_of_expr}
-use Rattle.kat_ast.specs.Assertions.{assertion_formed, is_formed_assertion, assertion_tree, tree_of_assertion}
-use Rattle.kat_forms.specs.declared.heads.AssertionHead.{AssertionHead}
-use Rattle.kat_forms.specs.Heads.{word_of_assertion}
-use Rattle.kat_forms.specs.Fits.{judged, first_word, list_fits}
-use Rattle.kat_forms.specs.Shapes.{shape_of_assertion, sorts_of}
-use Rattle.kat_forms.proofs.Rebuilt.{Begins}
+use Rattle.kat_ast.specs.declared.assertion.Assertion.TheFolds.{map-Assertion, fold-roll-Assertion, ind-Assertion}
+use Rattle.kat_ast.specs.Parts.{word, form, is_name, every}
+use Rattle.kat_ast.specs.Types.{tree_of_type, tree_of_param, is_formed_type, is_formed_param}
+use Rattle.kat_ast.specs.Expressions.{tree_of_expr, is_formed_expr, are_formed_exprs}
+use Rattle.kat_ast.specs.Assertions.{assertion_tree, tree_of_assertion, assertion_formed, is_formed_assertion}
+use Rattle.kat_shapes.specs.Forms.{Form, exactly, many, form_of, form_in, newest, row_of, assertions}
+use Rattle.kat_shapes.specs.Fits.{fits}
+use Rattle.kat_forms.specs.Parts.{FitsSort, HasParts}
+use Rattle.kat_forms.specs.Forms.{IsAssertion, AreAssertions}
+use Rattle.kat_forms.proofs.Lists.{both, same1, same2, same3, same_first}
+use Rattle.kat_forms.proofs.Fitting.{form_fits, place_fits, no_form, no_atom, headed, exact_parts, many_parts, rest_fits}
+use Rattle.kat_forms.proofs.SmallForms.{apart, name_of, param_of, name_fits, named_many, only_many, type_fits}
+use Rattle.kat_forms.proofs.ExpressionForms.{found_holds, expr_of, exprs_of, expr_fits, exprs_fit}
 
-pub tree-Pure : (e : Expr) → tree_of_assertion (assertion.Pure e) ≡ form (codes "pure") (tree_of_expr e ∷ [])
-tree-Pure e = ap tree_of_assertion (sym (rolls-Pure e)) ∙ fold-roll-Assertion Tree assertion_tree (layer.Pure e)
+-- each form from its parts
+pub Pure-is : (parts : List Tree) (e : Expr) → tree_of_expr e ∷ [] ≡ parts → is_formed_expr e ≡ true → IsAssertion (form (codes "pure") parts) (made.Pure e)
+Pure-is parts e same f0 = (
+  ap tree_of_assertion (sym (rolls-Pure e)) ∙ fold-roll-Assertion Tree assertion_tree (layer.Pure e) ∙ ap (form (codes "pure")) same,
+  ap is_formed_assertion (sym (rolls-Pure e)) ∙ fold-roll-Assertion Bool assertion_formed (layer.Pure e) ∙ f0,
+)
 
-pub formed-Pure : (e : Expr) → is_formed_assertion (assertion.Pure e) ≡ is_formed_expr e
-formed-Pure e = ap is_formed_assertion (sym (rolls-Pure e)) ∙ fold-roll-Assertion Bool assertion_formed (layer.Pure e)
+pub Register-is : (parts : List Tree) (r : List ℕ) (e : Expr) → word r ∷ tree_of_expr e ∷ [] ≡ parts → is_name r ≡ true → is_formed_expr e ≡ true → IsAssertion (form (codes "reg") parts) (made.Register r e)
+Register-is parts r e same f0 f1 = (
+  ap tree_of_assertion (sym (rolls-Register r e)) ∙ fold-roll-Assertion Tree assertion_tree (layer.Register r e) ∙ ap (form (codes "reg")) same,
+  ap is_formed_assertion (sym (rolls-Register r e)) ∙ fold-roll-Assertion Bool assertion_formed (layer.Register r e) ∙ rw (f0, f1) refl,
+)
 
-pub tree-Register : (r : List ℕ) (e : Expr) → tree_of_assertion (assertion.Register r e) ≡ form (codes "reg") (word r ∷ tree_of_expr e ∷ [])
-tree-Register r e = ap tree_of_assertion (sym (rolls-Register r e)) ∙ fold-roll-Assertion Tree assertion_tree (layer.Register r e)
+pub Cell-is : (parts : List Tree) (i : Expr) (e : Expr) → tree_of_expr i ∷ tree_of_expr e ∷ [] ≡ parts → is_formed_expr i ≡ true → is_formed_expr e ≡ true → IsAssertion (form (codes "cell") parts) (made.Cell i e)
+Cell-is parts i e same f0 f1 = (
+  ap tree_of_assertion (sym (rolls-Cell i e)) ∙ fold-roll-Assertion Tree assertion_tree (layer.Cell i e) ∙ ap (form (codes "cell")) same,
+  ap is_formed_assertion (sym (rolls-Cell i e)) ∙ fold-roll-Assertion Bool assertion_formed (layer.Cell i e) ∙ rw (f0, f1) refl,
+)
 
-pub formed-Register : (r : List ℕ) (e : Expr) → is_formed_assertion (assertion.Register r e) ≡ is_name r && is_formed_expr e
-formed-Register r e = ap is_formed_assertion (sym (rolls-Register r e)) ∙ fold-roll-Assertion Bool assertion_formed (layer.Register r e)
+pub Star-is : (parts : List Tree) (as_ : List Assertion) → map tree_of_assertion as_ ≡ parts → every (map is_formed_assertion as_) ≡ true → IsAssertion (form (codes "star") parts) (made.Star as_)
+Star-is parts as_ same f0 = (
+  ap tree_of_assertion (sym (rolls-Star as_)) ∙ fold-roll-Assertion Tree assertion_tree (layer.Star as_) ∙ ap (form (codes "star")) same,
+  ap is_formed_assertion (sym (rolls-Star as_)) ∙ fold-roll-Assertion Bool assertion_formed (layer.Star as_) ∙ f0,
+)
 
-pub tree-Cell : (index e : Expr) → tree_of_assertion (assertion.Cell index e) ≡ form (codes "cell") (tree_of_expr index ∷ tree_of_expr e ∷ [])
-tree-Cell index e = ap tree_of_assertion (sym (rolls-Cell index e)) ∙ fold-roll-Assertion Tree assertion_tree (layer.Cell index e)
+pub If-is : (parts : List Tree) (e : Expr) (a : Assertion) (b : Assertion) → tree_of_expr e ∷ tree_of_assertion a ∷ tree_of_assertion b ∷ [] ≡ parts → is_formed_expr e ≡ true → is_formed_assertion a ≡ true → is_formed_assertion b ≡ true → IsAssertion (form (codes "if") parts) (made.If e a b)
+If-is parts e a b same f0 f1 f2 = (
+  ap tree_of_assertion (sym (rolls-If e a b)) ∙ fold-roll-Assertion Tree assertion_tree (layer.If e a b) ∙ ap (form (codes "if")) same,
+  ap is_formed_assertion (sym (rolls-If e a b)) ∙ fold-roll-Assertion Bool assertion_formed (layer.If e a b) ∙ rw (f0, f1, f2) refl,
+)
 
-pub formed-Cell : (index e : Expr) → is_formed_assertion (assertion.Cell index e) ≡ is_formed_expr index && is_formed_expr e
-formed-Cell index e = ap is_formed_assertion (sym (rolls-Cell index e)) ∙ fold-roll-Assertion Bool assertion_formed (layer.Cell index e)
+pub Predicate-is : (parts : List Tree) (x : List ℕ) (es : List Expr) → word x ∷ map tree_of_expr es ≡ parts → is_name x ≡ true → are_formed_exprs es ≡ true → IsAssertion (form (codes "pred") parts) (made.Predicate x es)
+Predicate-is parts x es same f0 f1 = (
+  ap tree_of_assertion (sym (rolls-Predicate x es)) ∙ fold-roll-Assertion Tree assertion_tree (layer.Predicate x es) ∙ ap (form (codes "pred")) same,
+  ap is_formed_assertion (sym (rolls-Predicate x es)) ∙ fold-roll-Assertion Bool assertion_formed (layer.Predicate x es) ∙ rw (f0, f1) refl,
+)
 
-pub tree-Star : (held : List Assertion) → tree_of_assertion (assertion.Star held) ≡ form (codes "star") (map tree_of_assertion held)
-tree-Star held = ap tree_of_assertion (sym (rolls-Star held)) ∙ fold-roll-Assertion Tree assertion_tree (layer.Star held)
+pub Region-is : (parts : List Tree) (x : List ℕ) (es : List Expr) → word x ∷ map tree_of_expr es ≡ parts → is_name x ≡ true → are_formed_exprs es ≡ true → IsAssertion (form (codes "region") parts) (made.Region x es)
+Region-is parts x es same f0 f1 = (
+  ap tree_of_assertion (sym (rolls-Region x es)) ∙ fold-roll-Assertion Tree assertion_tree (layer.Region x es) ∙ ap (form (codes "region")) same,
+  ap is_formed_assertion (sym (rolls-Region x es)) ∙ fold-roll-Assertion Bool assertion_formed (layer.Region x es) ∙ rw (f0, f1) refl,
+)
 
-pub formed-Star : (held : List Assertion) → is_formed_assertion (assertion.Star held) ≡ every (map is_formed_assertion held)
-formed-Star held = ap is_formed_assertion (sym (rolls-Star held)) ∙ fold-roll-Assertion Bool assertion_formed (layer.Star held)
+pub Exists-is : (parts : List Tree) (x : List ℕ) (t : TypeName) (body : Assertion) → tree_of_param (record { name = x; ty = t }) ∷ tree_of_assertion body ∷ [] ≡ parts →
+    is_formed_param (record { name = x; ty = t }) ≡ true → is_formed_assertion body ≡ true → IsAssertion (form (codes "exists") parts) (made.Exists x t body)
+Exists-is parts x t body same f0 f1 =
+    let f = apart (is_name x) (is_formed_type t) f0 in (
+      ap tree_of_assertion (sym (rolls-Exists x t body)) ∙ fold-roll-Assertion Tree assertion_tree (layer.Exists x t body) ∙ ap (form (codes "exists")) same,
+      ap is_formed_assertion (sym (rolls-Exists x t body)) ∙ fold-roll-Assertion Bool assertion_formed (layer.Exists x t body) ∙ rw (f.0, f.1, f1) refl,
+    )
 
-pub tree-If : (test : Expr) (yes_ no_ : Assertion) → tree_of_assertion (assertion.If test yes_ no_) ≡ form (codes "if") (tree_of_expr test ∷ tree_of_assertion yes_ ∷ tree_of_assertion no_ ∷ [])
-tree-If test yes_ no_ = ap tree_of_assertion (sym (rolls-If test yes_ no_)) ∙ fold-roll-Assertion Tree assertion_tree (layer.If test yes_ no_)
+-- an assertion of right form fits
+abbrev AssertionFits : Assertion → Type 0
+AssertionFits a = is_formed_assertion a ≡ true → fits sort.Assertion (tree_of_assertion a) ≡ true
 
-pub formed-If : (test : Expr) (yes_ no_ : Assertion) → is_formed_assertion (assertion.If test yes_ no_) ≡ is_formed_expr test && (is_formed_assertion yes_ && is_formed_assertion no_)
-formed-If test yes_ no_ = ap is_formed_assertion (sym (rolls-If test yes_ no_)) ∙ fold-roll-Assertion Bool assertion_formed (layer.If test yes_ no_)
+fitting_assertions : (as_ : List ((a : Assertion) × AssertionFits a)) → every (map is_formed_assertion (map (λ a. a.0) as_)) ≡ true → AllByRecursion (FitsSort sort.Assertion) (map tree_of_assertion (map (λ a. a.0) as_))
+fitting_assertions [] f = tt
+fitting_assertions (a ∷ more) f = let h = apart (is_formed_assertion a.0) (every (map is_formed_assertion (map (λ a. a.0) more))) f in (a.1 h.0, fitting_assertions more h.1)
 
-pub tree-Exists : (x : List ℕ) (type : TypeName) (body : Assertion) → tree_of_assertion (assertion.Exists x type body) ≡ form (codes "exists") (tree_of_param (record { name = x; ty = type }) ∷ tree_of_assertion body ∷ [])
-tree-Exists x type body = ap tree_of_assertion (sym (rolls-Exists x type body)) ∙ fold-roll-Assertion Tree assertion_tree (layer.Exists x type body)
+assertion_layer : (y : layer.Assertion-F ((a : Assertion) × AssertionFits a)) →
+    assertion_formed (map-Assertion Assertion Bool is_formed_assertion (map-Assertion ((a : Assertion) × AssertionFits a) Assertion (λ a. a.0) y)) ≡ true →
+    fits sort.Assertion (assertion_tree (map-Assertion Assertion Tree tree_of_assertion (map-Assertion ((a : Assertion) × AssertionFits a) Assertion (λ a. a.0) y))) ≡ true
+assertion_layer (layer.Pure e) f = form_fits sort.Assertion (codes "pure") _ _ (sort.Expression ∷ []) refl refl (expr_fits e f, tt)
+assertion_layer (layer.Register r e) f = let h = apart (is_name r) (is_formed_expr e) f in
+    form_fits sort.Assertion (codes "reg") _ _ (sort.Name ∷ sort.Expression ∷ []) refl refl (name_fits r h.0, (expr_fits e h.1, tt))
+assertion_layer (layer.Cell i e) f = let h = apart (is_formed_expr i) (is_formed_expr e) f in
+    form_fits sort.Assertion (codes "cell") _ _ (sort.Expression ∷ sort.Expression ∷ []) refl refl (expr_fits i h.0, (expr_fits e h.1, tt))
+assertion_layer (layer.Star parts) f = only_many sort.Assertion sort.Assertion (codes "star") _ refl (fitting_assertions parts f)
+assertion_layer (layer.If e a b) f = let h = apart (is_formed_expr e) (is_formed_assertion a.0 && is_formed_assertion b.0) f in let i = apart (is_formed_assertion a.0) (is_formed_assertion b.0) h.1 in
+    form_fits sort.Assertion (codes "if") _ _ (sort.Expression ∷ sort.Assertion ∷ sort.Assertion ∷ []) refl refl (expr_fits e h.0, (a.1 i.0, (b.1 i.1, tt)))
+assertion_layer (layer.Exists x t body) f = let h = apart (is_name x) (is_formed_type t && is_formed_assertion body.0) f in let i = apart (is_formed_type t) (is_formed_assertion body.0) h.1 in
+    form_fits sort.Assertion (codes "exists") _ _ (sort.Param ∷ sort.Assertion ∷ []) refl refl
+    (place_fits sort.Param (word x ∷ tree_of_type t ∷ []) (exactly (sort.Name ∷ sort.TypeName ∷ [])) (sort.Name ∷ sort.TypeName ∷ []) (λ found. refl) refl (name_fits x h.0, (type_fits t i.0, tt)), (body.1 i.1, tt))
+assertion_layer (layer.Predicate p args) f = let h = apart (is_name p) (are_formed_exprs args) f in named_many sort.Assertion sort.Expression (codes "pred") p (map tree_of_expr args) refl h.0 (exprs_fit args h.1)
+assertion_layer (layer.Region g args) f = let h = apart (is_name g) (are_formed_exprs args) f in named_many sort.Assertion sort.Expression (codes "region") g (map tree_of_expr args) refl h.0 (exprs_fit args h.1)
 
-pub formed-Exists : (x : List ℕ) (type : TypeName) (body : Assertion) → is_formed_assertion (assertion.Exists x type body) ≡ is_name x && (is_formed_type type && is_formed_assertion body)
-formed-Exists x type body = ap is_formed_assertion (sym (rolls-Exists x type body)) ∙ fold-roll-Assertion Bool assertion_formed (layer.Exists x type body)
+pub assertion_fits : (a : Assertion) → is_formed_assertion a ≡ true → fits sort.Assertion (tree_of_assertion a) ≡ true
+assertion_fits = ind-Assertion AssertionFits (λ x y is f.
+    ap (fits sort.Assertion) (fold-roll-Assertion Tree assertion_tree x)
+    ∙ subst (λ z. assertion_formed (map-Assertion Assertion Bool is_formed_assertion z) ≡ true → fits sort.Assertion (assertion_tree (map-Assertion Assertion Tree tree_of_assertion z)) ≡ true) is (assertion_layer y)
+    (sym (fold-roll-Assertion Bool assertion_formed x) ∙ f))
 
-pub tree-Predicate : (p : List ℕ) (args : List Expr) → tree_of_assertion (assertion.Predicate p args) ≡ form (codes "pred") (word p ∷ map tree_of_expr args)
-tree-Predicate p args = ap tree_of_assertion (sym (rolls-Predicate p args)) ∙ fold-roll-Assertion Tree assertion_tree (layer.Predicate p args)
+-- What fits is an assertion.
+abbrev AssertionOf : Tree → Type 0
+AssertionOf t = FitsSort sort.Assertion t → (a : Assertion) × IsAssertion t a
 
-pub formed-Predicate : (p : List ℕ) (args : List Expr) → is_formed_assertion (assertion.Predicate p args) ≡ is_name p && are_formed_exprs args
-formed-Predicate p args = ap is_formed_assertion (sym (rolls-Predicate p args)) ∙ fold-roll-Assertion Bool assertion_formed (layer.Predicate p args)
+abbrev Known : Type 0
+Known = (t : Tree) × AssertionOf t
 
-pub tree-Region : (g : List ℕ) (args : List Expr) → tree_of_assertion (assertion.Region g args) ≡ form (codes "region") (word g ∷ map tree_of_expr args)
-tree-Region g args = ap tree_of_assertion (sym (rolls-Region g args)) ∙ fold-roll-Assertion Tree assertion_tree (layer.Region g args)
+abbrev trees : List Known → List Tree
+trees ps = map (λ p. p.0) ps
 
-pub formed-Region : (g : List ℕ) (args : List Expr) → is_formed_assertion (assertion.Region g args) ≡ is_name g && are_formed_exprs args
-formed-Region g args = ap is_formed_assertion (sym (rolls-Region g args)) ∙ fold-roll-Assertion Bool assertion_formed (layer.Region g args)
+assertions_from : (ps : List Known) → AllByRecursion (FitsSort sort.Assertion) (trees ps) → (made : List Assertion) × AreAssertions (trees ps) made
+assertions_from [] all = ([], (refl, refl))
+assertions_from (p ∷ ps) all =
+    let a = p.1 all.0 in let more = assertions_from ps all.1 in
+    (a.0 ∷ more.0, (same_first a.1.0 more.1.0, both (is_formed_assertion a.0) (every (map is_formed_assertion more.0)) a.1.1 more.1.1))
 
--- the parts that begin an assertion
-pub asserted : (parts : List Tree) (head form : AssertionHead) → first_word (map judged parts) ≡ Some (word_of_assertion head) → head ≡ form →
-    Begins (variant.List parts) parts (word_of_assertion form)
-asserted parts head form told is = record { is = refl; word = told ∙ ap (λ h. Some (word_of_assertion h)) is }
+pure-from : (ps : List Known) → HasParts (sort.Expression ∷ []) (trees ps) → (x : Assertion) × IsAssertion (form (codes "pure") (trees ps)) x
+pure-from (p0 ∷ []) h =
+    let v0 = expr_of p0.0 h.fit.0 in
+    (made.Pure v0.0, Pure-is _ v0.0 (same1 v0.1.0) v0.1.1)
+pure-from _ h = absurd (omega (arith, h.count))
 
--- the parts of an assertion fit
-pub fit_of : (parts : List Tree) (head form : AssertionHead) → list_fits (sorts_of (shape_of_assertion head) (length parts)) (map judged parts) ≡ true → head ≡ form →
-    list_fits (sorts_of (shape_of_assertion form) (length parts)) (map judged parts) ≡ true
-fit_of parts head form fit is = sym (ap (λ h. list_fits (sorts_of (shape_of_assertion h) (length parts)) (map judged parts)) is) ∙ fit
+register-from : (ps : List Known) → HasParts (sort.Name ∷ sort.Expression ∷ []) (trees ps) → (x : Assertion) × IsAssertion (form (codes "reg") (trees ps)) x
+register-from (p0 ∷ p1 ∷ []) h =
+    let v0 = name_of p0.0 h.fit.0 in
+    let v1 = expr_of p1.0 h.fit.1.0 in
+    (made.Register v0.0 v1.0, Register-is _ v0.0 v1.0 (same2 v0.1.0 v1.1.0) v0.1.1 v1.1.1)
+register-from _ h = absurd (omega (arith, h.count))
 
--- what a name with its type owes, and then a part
-pub joined : (a b c : Bool) → a && b ≡ true → c ≡ true → a && (b && c) ≡ true
-joined true true c e f = f
-joined true false c e f = absurd (cc)
-joined false b c e f = absurd (cc)
+cell-from : (ps : List Known) → HasParts (sort.Expression ∷ sort.Expression ∷ []) (trees ps) → (x : Assertion) × IsAssertion (form (codes "cell") (trees ps)) x
+cell-from (p0 ∷ p1 ∷ []) h =
+    let v0 = expr_of p0.0 h.fit.0 in
+    let v1 = expr_of p1.0 h.fit.1.0 in
+    (made.Cell v0.0 v1.0, Cell-is _ v0.0 v1.0 (same2 v0.1.0 v1.1.0) v0.1.1 v1.1.1)
+cell-from _ h = absurd (omega (arith, h.count))
+
+if-from : (ps : List Known) → HasParts (sort.Expression ∷ sort.Assertion ∷ sort.Assertion ∷ []) (trees ps) → (x : Assertion) × IsAssertion (form (codes "if") (trees ps)) x
+if-from (p0 ∷ p1 ∷ p2 ∷ []) h =
+    let v0 = expr_of p0.0 h.fit.0 in
+    let v1 = p1.1 h.fit.1.0 in
+    let v2 = p2.1 h.fit.1.1.0 in
+    (made.If v0.0 v1.0 v2.0, If-is _ v0.0 v1.0 v2.0 (same3 v0.1.0 v1.1.0 v2.1.0) v0.1.1 v1.1.1 v2.1.1)
+if-from _ h = absurd (omega (arith, h.count))
+
+predicate-from : (ps : List Known) → HasParts (sort.Name ∷ replicate (length (trees ps) - 1) sort.Expression) (trees ps) → (x : Assertion) × IsAssertion (form (codes "pred") (trees ps)) x
+predicate-from [] h = absurd h.fit
+predicate-from (p ∷ ps) h =
+    let k = name_of p.0 h.fit.0 in
+    let es = exprs_of (trees ps) (rest_fits (sort.Name ∷ []) sort.Expression (length (trees (p ∷ ps)) - 1) (trees (p ∷ ps)) h) in
+    (made.Predicate k.0 es.0, Predicate-is _ k.0 es.0 (same_first k.1.0 es.1.0) k.1.1 es.1.1)
+
+region-from : (ps : List Known) → HasParts (sort.Name ∷ replicate (length (trees ps) - 1) sort.Expression) (trees ps) → (x : Assertion) × IsAssertion (form (codes "region") (trees ps)) x
+region-from [] h = absurd h.fit
+region-from (p ∷ ps) h =
+    let k = name_of p.0 h.fit.0 in
+    let es = exprs_of (trees ps) (rest_fits (sort.Name ∷ []) sort.Expression (length (trees (p ∷ ps)) - 1) (trees (p ∷ ps)) h) in
+    (made.Region k.0 es.0, Region-is _ k.0 es.0 (same_first k.1.0 es.1.0) k.1.1 es.1.1)
+
+star-from : (ps : List Known) → HasParts (replicate (length (trees ps) - 0) sort.Assertion) (trees ps) → (x : Assertion) × IsAssertion (form (codes "star") (trees ps)) x
+star-from ps h =
+    let all = assertions_from ps (rest_fits [] sort.Assertion (length (trees ps) - 0) (trees ps) h) in
+    (made.Star all.0, Star-is _ all.0 all.1.0 all.1.1)
+
+exists-from : (ps : List Known) → HasParts (sort.Param ∷ sort.Assertion ∷ []) (trees ps) → (x : Assertion) × IsAssertion (form (codes "exists") (trees ps)) x
+exists-from (p0 ∷ p1 ∷ []) h =
+    let q = param_of p0.0 h.fit.0 in let a = p1.1 h.fit.1.0 in
+    (made.Exists q.0.name q.0.ty a.0, Exists-is _ q.0.name q.0.ty a.0 (same2 q.1.0 a.1.0) q.1.1 a.1.1)
+exists-from _ h = absurd (omega (arith, h.count))
+
+-- the form of a word
+abbrev ListOf : List ℕ → Form → Type 0
+ListOf w f = (ps : List Known) → FitsSort sort.Assertion (form w (trees ps)) → (x : Assertion) × IsAssertion (form w (trees ps)) x
+
+list_rows : AllByRecursion (λ (row : List ℕ × Form). ListOf row.0 row.1) assertions
+list_rows = (
+  λ ps fit. pure-from ps (exact_parts sort.Assertion (codes "pure") (sort.Expression ∷ []) (trees ps) refl fit),
+  (
+    λ ps fit. register-from ps (exact_parts sort.Assertion (codes "reg") (sort.Name ∷ sort.Expression ∷ []) (trees ps) refl fit),
+    (
+      λ ps fit. cell-from ps (exact_parts sort.Assertion (codes "cell") (sort.Expression ∷ sort.Expression ∷ []) (trees ps) refl fit),
+      (
+        λ ps fit. star-from ps (many_parts sort.Assertion (codes "star") ([]) sort.Assertion (trees ps) refl fit),
+        (
+          λ ps fit. if-from ps (exact_parts sort.Assertion (codes "if") (sort.Expression ∷ sort.Assertion ∷ sort.Assertion ∷ []) (trees ps) refl fit),
+          (
+            λ ps fit. exists-from ps (exact_parts sort.Assertion (codes "exists") (sort.Param ∷ sort.Assertion ∷ []) (trees ps) refl fit),
+            (
+              λ ps fit. predicate-from ps (many_parts sort.Assertion (codes "pred") (sort.Name ∷ []) sort.Expression (trees ps) refl fit),
+              (λ ps fit. region-from ps (many_parts sort.Assertion (codes "region") (sort.Name ∷ []) sort.Expression (trees ps) refl fit), tt),
+            ),
+          ),
+        ),
+      ),
+    ),
+  ),
+)
+
+list_by : (w : List ℕ) (ps : List Known) (found : Option Form) → row_of assertions w ≡ found → FitsSort sort.Assertion (form w (trees ps)) →
+    (x : Assertion) × IsAssertion (form w (trees ps)) x
+list_by w ps None none fit = absurd (no_form sort.Assertion w (trees ps) (ap (option_and_then (form_in newest)) none) fit)
+list_by w ps (Some f) found fit = found_holds ListOf assertions w f list_rows found ps fit
+
+list_of : (ps : List Known) → FitsSort sort.Assertion (variant.List (trees ps)) → (x : Assertion) × IsAssertion (variant.List (trees ps)) x
+list_of [] fit = absurd (let h = headed sort.Assertion [] refl fit in omega (arith, ap length h.is))
+list_of (p ∷ ps) fit =
+    let h = headed sort.Assertion (trees (p ∷ ps)) refl fit in
+    let first : p.0 ≡ word h.head = let e = h.is in cc in
+    let is : variant.List (trees (p ∷ ps)) ≡ form h.head (trees ps) = ap (λ t. variant.List (t ∷ trees ps)) first in
+    subst (λ t. (x : Assertion) × IsAssertion t x) (sym is)
+    (list_by h.head ps (row_of assertions h.head) refl (subst (FitsSort sort.Assertion) is fit))
+
+assertion_layer_of : (y : Tree-F Known) → AssertionOf (roll-Tree (map-Tree Known Tree (λ p. p.0) y))
+assertion_layer_of (Tree-F.Atom t) = subst AssertionOf (sym (rolls-Atom t)) (λ fit. absurd (no_atom sort.Assertion t (record { numbers = λ n. refl; names = λ x. refl }) fit))
+assertion_layer_of (Tree-F.List ps) = subst AssertionOf (sym (rolls-List (trees ps))) (list_of ps)
+
+pub assertion_of : (t : Tree) → FitsSort sort.Assertion t → (a : Assertion) × IsAssertion t a
+assertion_of = ind-Tree AssertionOf (λ x y is. subst (λ z. AssertionOf (roll-Tree z)) is (assertion_layer_of y))

@@ -1,13 +1,8 @@
-mod AssertionForms
-mod Checking
-mod DeclaredForms
-mod Exprs
-mod Fitting
-mod FittingForms
-mod FoundHeads
-mod Lists
-mod PartsFit
-mod Positions
-mod Rebuilt
-mod StatementForms
-mod Whole
+pub mod Lists
+pub mod Fitting
+pub mod SmallForms
+pub mod ExpressionForms
+pub mod StatementForms
+pub mod AssertionForms
+pub mod DeclarationForms
+pub mod SpecificationForms

@@ -1,39 +1,187 @@
--- Lists that are read part by part.
-use Rattle.std.proofs.Common.{◌≡◌, ℕ, Bool, ◌&&◌, ◌+◌, ◌<◌, ◌≤◌, List, [], ◌∷◌, ◌++◌, length, take, get_or, map, true, false, refl, ap, sym, ◌∙◌}
-use Rattle.std.proofs.lemmas.List.{take_more, take_all, map-append}
-use Rattle.kat_ast.specs.Parts.{every}
+-- Lists part by part: the parts that stand in one, and what was made of those before a position.
+use Rattle.std.proofs.Common.{◌≡◌, ℕ, zero, suc, Bool, ◌&&◌, ◌+◌, ◌-◌, ◌<◌, ◌≤◌, List, [], ◌∷◌, ◌++◌, length, take, drop, get_or, map, sum, sum_by, true, false, refl, ap, sym, subst, ◌∙◌, arith, length-drop}
+use Rattle.std.specs.List.{AllByRecursion}
+use Rattle.std.proofs.lemmas.List.Sums.{sum_by-cons, sum-map}
+use Rattle.std.proofs.lemmas.List.{drop_all, drop_more, take_more, take_all, map-append}
+use Rattle.kat_tree.specs.declared.tree.Tree.{Tree}
+use Rattle.kat_tree.specs.declared.tree.Tree.TheVariants as variant
+use Rattle.kat_tree.specs.declared.tree.Tree.TheVariants.{rolls-Atom, rolls-List}
+use Rattle.kat_tree.specs.declared.tree.Tree.TheOpen.{Tree-F}
+use Rattle.kat_tree.specs.declared.tree.Tree.TheViews.{out-Tree, outs-List}
+use Rattle.kat_tree.specs.declared.tree.Tree.TheFolds.{fold-roll-Tree}
+use Rattle.kat_tree.specs.Preorder.{count_in, count_of}
+use Rattle.kat_ast.specs.Parts.{every, word}
+use Rattle.kat_tree.specs.declared.tree.Token.TheVariants as token
+use Rattle.kat_forms.specs.Forms.{AreForms}
 
--- two truths
+-- a part at a place of a list
+abbrev pub At : List Tree → ℕ → Tree → Type 0
+At parts i part = part ≡ get_or parts i part
+
+-- what stands from a place on: nothing past the end, and else a part and what stands behind it
+pub nothing : (parts : List Tree) (i : ℕ) → length parts ≤ i → drop i parts ≡ []
+nothing parts i past = drop_all i parts past
+
+pub next : (parts : List Tree) (i : ℕ) (part : Tree) (rest : List Tree) → i < length parts → At parts i part → drop (i + 1) parts ≡ rest →
+    drop i parts ≡ part ∷ rest
+next parts i part rest within at left =
+    drop_more parts i part within ∙ ap (λ t. t ∷ drop (i + 1) parts) (sym at) ∙ ap (λ ts. part ∷ ts) left
+
+-- lists of a set count of parts
+pub one : (parts : List Tree) (a : Tree) → length parts ≡ 1 → At parts 0 a → parts ≡ a ∷ []
+one parts a long p = next parts 0 a [] (omega arith) p (nothing parts 1 (omega arith))
+
+pub two : (parts : List Tree) (a b : Tree) → length parts ≡ 2 → At parts 0 a → At parts 1 b → parts ≡ a ∷ b ∷ []
+two parts a b long p q = next parts 0 a (b ∷ []) (omega arith) p (next parts 1 b [] (omega arith) q (nothing parts 2 (omega arith)))
+
+pub three : (parts : List Tree) (a b c : Tree) → length parts ≡ 3 → At parts 0 a → At parts 1 b → At parts 2 c → parts ≡ a ∷ b ∷ c ∷ []
+three parts a b c long p q r =
+    next parts 0 a (b ∷ c ∷ []) (omega arith) p (next parts 1 b (c ∷ []) (omega arith) q (next parts 2 c [] (omega arith) r (nothing parts 3 (omega arith))))
+
+pub four : (parts : List Tree) (a b c d : Tree) → length parts ≡ 4 → At parts 0 a → At parts 1 b → At parts 2 c → At parts 3 d → parts ≡ a ∷ b ∷ c ∷ d ∷ []
+four parts a b c d long p q r s =
+    next parts 0 a (b ∷ c ∷ d ∷ []) (omega arith) p (next parts 1 b (c ∷ d ∷ []) (omega arith) q
+    (next parts 2 c (d ∷ []) (omega arith) r (next parts 3 d [] (omega arith) s (nothing parts 4 (omega arith)))))
+
+pub five : (parts : List Tree) (a b c d e : Tree) → length parts ≡ 5 → At parts 0 a → At parts 1 b → At parts 2 c → At parts 3 d → At parts 4 e →
+    parts ≡ a ∷ b ∷ c ∷ d ∷ e ∷ []
+five parts a b c d e long p q r s t =
+    next parts 0 a (b ∷ c ∷ d ∷ e ∷ []) (omega arith) p (next parts 1 b (c ∷ d ∷ e ∷ []) (omega arith) q
+    (next parts 2 c (d ∷ e ∷ []) (omega arith) r (next parts 3 d (e ∷ []) (omega arith) s (next parts 4 e [] (omega arith) t (nothing parts 5 (omega arith))))))
+
+pub six : (parts : List Tree) (a b c d e f : Tree) → length parts ≡ 6 → At parts 0 a → At parts 1 b → At parts 2 c → At parts 3 d → At parts 4 e → At parts 5 f →
+    parts ≡ a ∷ b ∷ c ∷ d ∷ e ∷ f ∷ []
+six parts a b c d e f long p q r s t u =
+    next parts 0 a (b ∷ c ∷ d ∷ e ∷ f ∷ []) (omega arith) p (next parts 1 b (c ∷ d ∷ e ∷ f ∷ []) (omega arith) q
+    (next parts 2 c (d ∷ e ∷ f ∷ []) (omega arith) r (next parts 3 d (e ∷ f ∷ []) (omega arith) s
+    (next parts 4 e (f ∷ []) (omega arith) t (next parts 5 f [] (omega arith) u (nothing parts 6 (omega arith)))))))
+
+-- equal parts make equal lists
+pub same1 : {A : Type 0} {a x : A} → a ≡ x → a ∷ [] ≡ x ∷ []
+same1 p = ap (λ y. y ∷ []) p
+
+pub same_first : {A : Type 0} {a x : A} {as_ xs : List A} → a ≡ x → as_ ≡ xs → a ∷ as_ ≡ x ∷ xs
+same_first p q = cc
+
+pub same2 : {A : Type 0} {a b x y : A} → a ≡ x → b ≡ y → a ∷ b ∷ [] ≡ x ∷ y ∷ []
+same2 p q = same_first p (same1 q)
+
+pub same3 : {A : Type 0} {a b c x y z : A} → a ≡ x → b ≡ y → c ≡ z → a ∷ b ∷ c ∷ [] ≡ x ∷ y ∷ z ∷ []
+same3 p q r = same_first p (same2 q r)
+
+pub same4 : {A : Type 0} {a b c d x y z u : A} → a ≡ x → b ≡ y → c ≡ z → d ≡ u → a ∷ b ∷ c ∷ d ∷ [] ≡ x ∷ y ∷ z ∷ u ∷ []
+same4 p q r s = same_first p (same3 q r s)
+
+pub same5 : {A : Type 0} {a b c d e x y z u v : A} → a ≡ x → b ≡ y → c ≡ z → d ≡ u → e ≡ v → a ∷ b ∷ c ∷ d ∷ e ∷ [] ≡ x ∷ y ∷ z ∷ u ∷ v ∷ []
+same5 p q r s t = same_first p (same4 q r s t)
+
+pub same6 : {A : Type 0} {a b c d e f x y z u v w : A} → a ≡ x → b ≡ y → c ≡ z → d ≡ u → e ≡ v → f ≡ w →
+    a ∷ b ∷ c ∷ d ∷ e ∷ f ∷ [] ≡ x ∷ y ∷ z ∷ u ∷ v ∷ w ∷ []
+same6 p q r s t o = same_first p (same5 q r s t o)
+
+-- what stands behind the first parts of a list
+pub rest_is : (parts : List Tree) (k : ℕ) → take (length parts - k) (drop k parts) ≡ drop k parts
+rest_is parts k = take_all (length parts - k) (drop k parts) (omega (arith, length-drop k parts))
+
+-- a first part, and all others
+pub one_and : (parts : List Tree) (a : Tree) → 1 ≤ length parts → At parts 0 a → parts ≡ a ∷ take (length parts - 1) (drop 1 parts)
+one_and parts a long p = next parts 0 a _ (omega arith) p (sym (rest_is parts 1))
+
+-- two first parts, and all others
+pub two_and : (parts : List Tree) (a b : Tree) → 2 ≤ length parts → At parts 0 a → At parts 1 b → parts ≡ a ∷ b ∷ take (length parts - 2) (drop 2 parts)
+two_and parts a b long p q = next parts 0 a _ (omega arith) p (next parts 1 b _ (omega arith) q (sym (rest_is parts 2)))
+
+-- the parts of a list
+pub same_parts : (a b : List Tree) → variant.List a ≡ variant.List b → a ≡ b
+same_parts a b e = let f : Tree-F.List a ≡ Tree-F.List b = sym (outs-List a) ∙ ap out-Tree e ∙ outs-List b in cc
+
+-- how many trees there are in trees side by side
+abbrev pub counts : List Tree → ℕ
+counts [] = 0
+counts (tree ∷ trees) = count_of tree + counts trees
+
+by_counts : (parts : List Tree) → sum_by count_of parts ≡ counts parts
+by_counts [] = refl
+by_counts (t ∷ parts) = sum_by-cons count_of t parts ∙ ap (λ n. count_of t + n) (by_counts parts)
+
+sum_counts : (parts : List Tree) → sum (map count_of parts) ≡ counts parts
+sum_counts parts = sum-map count_of parts ∙ by_counts parts
+
+-- a list has one more than its parts
+pub count-List : (parts : List Tree) → count_of (variant.List parts) ≡ counts parts + 1
+count-List parts = ap count_of (sym (rolls-List parts)) ∙ fold-roll-Tree ℕ count_in (Tree-F.List parts) ∙ ap (λ n. n + 1) (sum_counts parts)
+
+-- the parts behind a word have fewer
+pub behind_fewer : (x : List ℕ) (behind parts : List Tree) → word x ∷ behind ≡ parts → counts behind + 1 ≡ counts parts
+behind_fewer x behind parts same =
+    let e : count_of (word x) ≡ 1 = ap count_of (sym (rolls-Atom (token.Name x))) ∙ fold-roll-Tree ℕ count_in (Tree-F.Atom (token.Name x)) in
+    omega (arith, e, ap counts same)
+
+-- a part has no more trees than all parts
+pub part_among : (parts : List Tree) (i : ℕ) (part : Tree) → i < length parts → At parts i part → count_of part ≤ counts parts
+part_among [] i part within at = absurd (omega arith)
+part_among (t ∷ parts) zero part within at = omega (arith, ap count_of at)
+part_among (t ∷ parts) (suc i) part within at = let e = part_among parts i part (omega arith) at in omega arith
+
+rest_fewer : (k : ℕ) (parts : List Tree) → counts (drop k parts) ≤ counts parts
+rest_fewer zero parts = omega arith
+rest_fewer (suc k) [] = omega arith
+rest_fewer (suc k) (t ∷ parts) = let e = rest_fewer k parts in omega arith
+
+-- nor have the parts from a place on
+pub rest_among : (parts : List Tree) (k : ℕ) → counts (take (length parts - k) (drop k parts)) ≤ counts parts
+rest_among parts k = omega (arith, ap counts (rest_is parts k), rest_fewer k parts)
+
+-- one of parts of which something holds
+pub one_of : (P : Tree → Type 0) (trees : List Tree) (i : ℕ) (tree : Tree) → AllByRecursion P trees → i < length trees → At trees i tree → P tree
+one_of P [] i tree all within at = absurd (omega arith)
+one_of P (first ∷ trees) zero tree all within at = subst P (sym at) all.0
+one_of P (first ∷ trees) (suc i) tree all within at = one_of P trees i tree all.1 (omega arith) at
+
+-- the parts behind others
+pub all_behind : (P : Tree → Type 0) (n : ℕ) (trees : List Tree) → AllByRecursion P trees → AllByRecursion P (drop n trees)
+all_behind P zero trees all = all
+all_behind P (suc n) [] all = tt
+all_behind P (suc n) (tree ∷ trees) all = all_behind P n trees all.1
+
+-- truths
 pub both : (a b : Bool) → a ≡ true → b ≡ true → a && b ≡ true
 both a b p q = rw (p, q) refl
 
-pub every-append : (bs : List Bool) (b : Bool) → every (bs ++ b ∷ []) ≡ every bs && (b && true)
+pub left_true : (a b : Bool) → a && b ≡ true → a ≡ true
+left_true true b e = refl
+left_true false b e = absurd (cc)
+
+pub right_true : (a b : Bool) → a && b ≡ true → b ≡ true
+right_true true b e = e
+right_true false b e = absurd (cc)
+
+every-append : (bs : List Bool) (b : Bool) → every (bs ++ b ∷ []) ≡ every bs && (b && true)
 every-append [] b = refl
 every-append (true ∷ bs) b = every-append bs b
 every-append (false ∷ bs) b = refl
 
--- one more that is true
-pub every_more : (bs : List Bool) (b : Bool) → every bs ≡ true → b ≡ true → every (bs ++ b ∷ []) ≡ true
+every_more : (bs : List Bool) (b : Bool) → every bs ≡ true → b ≡ true → every (bs ++ b ∷ []) ≡ true
 every_more bs b all one = every-append bs b ∙ both (every bs) (b && true) all (both b true one refl)
 
 -- what was made of the parts before a position: written again it is these parts, and each is well formed
-pub record SoFar {A Part : Type 0} (written : A → Part) (formed : A → Bool) (parts : List Part) (made : List A) (at : ℕ) : Type 0 where
+pub record SoFar {A : Type 0} (written : A → Tree) (formed : A → Bool) (parts : List Tree) (made : List A) (at : ℕ) : Type 0 where
   pub same : map written made ≡ take at parts
   pub well : every (map formed made) ≡ true
 
-module _ {A Part : Type 0} (written : A → Part) (formed : A → Bool) (parts : List Part) where
-  pub none_yet : SoFar written formed parts [] 0
-  none_yet = record { same = refl; well = refl }
+-- one more was made
+pub one_more : {A : Type 0} (written : A → Tree) (formed : A → Bool) (parts : List Tree) (made now : List A) (at : ℕ) (one : A) (part : Tree) →
+    now ≡ made ++ one ∷ [] → SoFar written formed parts made at → at < length parts → At parts at part → written one ≡ part → formed one ≡ true →
+    SoFar written formed parts now (at + 1)
+one_more written formed parts made now at one part pushed so_far within here is formed_one = subst (λ made. SoFar written formed parts made (at + 1)) (sym pushed) (record {
+  same =
+      map-append written made (one ∷ []) ∙ ap (λ ps. ps ++ written one ∷ []) so_far.same
+      ∙ ap (λ p. take at parts ++ p ∷ []) (is ∙ here) ∙ sym (take_more parts at part within);
+  well =
+      ap every (map-append formed made (one ∷ [])) ∙ every_more (map formed made) (formed one) so_far.well formed_one;
+})
 
-  pub one_more : (made : List A) (at : ℕ) (one : A) (part : Part) → SoFar written formed parts made at → at < length parts → part ≡ get_or parts at part →
-      written one ≡ part → formed one ≡ true → SoFar written formed parts (made ++ one ∷ []) (at + 1)
-  one_more made at one part so_far within here is formed_one = record {
-    same =
-        map-append written made (one ∷ []) ∙ ap (λ ps. ps ++ written one ∷ []) so_far.same
-        ∙ ap (λ p. take at parts ++ p ∷ []) (is ∙ here) ∙ sym (take_more parts at part within);
-    well =
-        ap every (map-append formed made (one ∷ [])) ∙ every_more (map formed made) (formed one) so_far.well formed_one;
-  }
-
-  pub all_made : (made : List A) (at : ℕ) → SoFar written formed parts made at → length parts ≤ at → (map written made ≡ parts) × (every (map formed made) ≡ true)
-  all_made made at so_far past = (so_far.same ∙ take_all at parts past, so_far.well)
+-- all were made
+pub all_made : {A : Type 0} (written : A → Tree) (formed : A → Bool) (parts : List Tree) (made : List A) (at : ℕ) →
+    SoFar written formed parts made at → length parts ≤ at → AreForms written formed parts made
+all_made written formed parts made at so_far past = (so_far.same ∙ take_all at parts past, so_far.well)

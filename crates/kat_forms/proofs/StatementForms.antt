@@ -1,245 +1,474 @@
--- Each form of a statement, made again of its parts.
-use Rattle.std.proofs.Common.{◌≡◌, ℕ, ◌-◌, ◌<◌, ◌≤◌, Bool, true, ◌&&◌, List, [], ◌∷◌, length, get_or, take, drop, map, sum_by, refl, ap, sym, subst, ◌∙◌, arith}
+-- Statements: what fits is one, form by form, and the tree of one fits.
+use Rattle.std.proofs.Common.{◌≡◌, ℕ, Bool, ◌+◌, ◌-◌, List, [], ◌∷◌, ◌++◌, ◌&&◌, length, map, true, false, Option, Some, None, refl, ap, sym, subst, ◌∙◌, arith}
 use Rattle.std.specs.Prelude.{codes, replicate}
 use Rattle.std.specs.List.{AllByRecursion}
-use Rattle.std.proofs.lemmas.Bool.{false≢true}
-use Rattle.std.proofs.lemmas.List.{length-drop, take_all}
-use Rattle.std.proofs.lemmas.List.Sums.{sum_by-cons}
-use Rattle.kat_tree.specs.declared.tree.Tree.TheVariants as variant
+use Rattle.kat_tree.specs.declared.tree.Token.{Token}
+use Rattle.kat_tree.specs.declared.tree.Tree.TheVariants.{rolls-Atom, rolls-List}
+use Rattle.kat_tree.specs.declared.tree.Tree.TheOpen.{Tree-F}
+use Rattle.kat_tree.specs.declared.tree.Tree.TheViews.{roll-Tree}
+use Rattle.kat_tree.specs.declared.tree.Tree.TheFolds.{map-Tree, ind-Tree}
+use Rattle.std.specs.Option.{option_and_then}
+use Rattle.std.proofs.lemmas.List.{length-replicate}
+use Rattle.kat_tree.specs.declared.tree.Token.TheVariants as token
 use Rattle.kat_tree.specs.declared.tree.Tree.{Tree}
+use Rattle.kat_tree.specs.declared.tree.Tree.TheVariants as variant
+use Rattle.kat_shapes.specs.declared.sort.Sort.{Sort}
+use Rattle.kat_shapes.specs.declared.sort.Sort.TheVariants as sort
 use Rattle.kat_ast.specs.declared.expr.Expr.{Expr}
 use Rattle.kat_ast.specs.declared.stm.Stm.{Stm}
 use Rattle.kat_ast.specs.declared.stm.CaseArm.{CaseArm}
 use Rattle.kat_ast.specs.declared.stm.MatchArm.{MatchArm}
-use Rattle.kat_ast.specs.declared.stm.Stm.TheOpen as layer
-use Rattle.kat_ast.specs.declared.stm.Stm.TheVariants.{Ret, Let, Seq, If, Case, Match, Read, Write, Load, Store, Call, Check, Fail, Open, Close, Lemma}
+use Rattle.kat_ast.specs.declared.stm.Stm.TheVariants as made
 use Rattle.kat_ast.specs.declared.stm.Stm.TheVariants.{rolls-Ret, rolls-Let, rolls-Seq, rolls-If, rolls-Case, rolls-Match, rolls-Read, rolls-Write, rolls-Load, rolls-Store, rolls-Call, rolls-Check, rolls-Fail, rolls-Open, rolls-Close, rolls-Lemma}
-use Rattle.kat_ast.specs.declared.stm.Stm.TheFolds.{fold-roll-Stm}
+use Rattle.kat_ast.specs.declared.stm.Stm.TheOpen as layer
 use Rattle.kat_ast.specs.declared.stm.Stm.TheShapes.{former-Stm-Case-1-at-2 as case_arm, former-Stm-Match-1-at-3 as match_arm}
+use Rattle.kat_ast.specs.declared.stm.Stm.TheFolds.{map-Stm, fold-roll-Stm, ind-Stm}
 use Rattle.kat_ast.specs.Parts.{word, form, is_name, every, is_some}
 use Rattle.kat_ast.specs.Expressions.{tree_of_expr, is_formed_expr, are_formed_exprs}
-use Rattle.kat_ast.specs.Statements.{stm_tree, tree_of_stm, tree_of_case_arm, tree_of_match_arm, stm_formed, is_formed_stm, is_formed_case_arm, is_formed_match_arm}
-use Rattle.kat_forms.specs.declared.sort.Sort.{Sort}
-use Rattle.kat_forms.specs.declared.sort.Sort.TheVariants as sort
-use Rattle.kat_forms.specs.declared.heads.StmHead.{StmHead}
-use Rattle.kat_forms.specs.declared.heads.StmHead.TheVariants as head
-use Rattle.kat_forms.specs.Shapes.{exactly, many, shape_of_stm, sorts_of}
-use Rattle.kat_forms.specs.Fits.{Judged, judged, list_fits}
-use Rattle.kat_forms.specs.Parts.{Fits, is_naming}
-use Rattle.kat_forms.proofs.Rebuilt.{At, Begins, form_of}
-use Rattle.kat_forms.proofs.Lists.{both}
-use Rattle.kat_forms.proofs.PartsFit.{many_fit, rest_fit, exact_fit, part_fit, rest_among, rest_less}
-use Rattle.kat_forms.proofs.Checking.{count_of_parts}
+use Rattle.kat_ast.specs.Statements.{tree_of_case_arm, tree_of_match_arm, stm_tree, tree_of_stm, is_formed_case_arm, is_formed_match_arm, stm_formed, is_formed_stm}
+use Rattle.kat_shapes.specs.Forms.{Form, exactly, many, form_of, form_in, newest, row_of, statements}
+use Rattle.kat_shapes.specs.Fits.{fits}
+use Rattle.kat_forms.specs.Parts.{FitsSort, HasParts}
+use Rattle.kat_forms.specs.Forms.{IsStm, IsCaseArm, IsMatchArm, AreStms, AreCaseArms, AreMatchArms, case_tree, case_formed, match_tree, match_formed}
+use Rattle.kat_forms.proofs.Lists.{both, same1, same2, same3, same_first}
+use Rattle.kat_forms.proofs.Fitting.{form_fits, place_fits, no_form, no_atom, headed, exact_parts, many_parts, exact_place, rest_fits, some_fit}
+use Rattle.kat_forms.proofs.SmallForms.{apart, name_of, some_made, name_fits, named_many, headed_many}
+use Rattle.kat_forms.proofs.ExpressionForms.{found_holds, expr_of, exprs_of, expr_fits, exprs_fit}
 
--- a statement that is written as this tree and has the form of one
-abbrev pub Made : Tree → Stm → Type 0
-Made tree s = (tree_of_stm s ≡ tree) × (is_formed_stm s ≡ true)
-
-pub made-Ret : (tree : Tree) (parts : List Tree) (e : Expr) → Begins tree parts (codes "ret") → drop 1 parts ≡ tree_of_expr e ∷ [] →
-    is_formed_expr e ≡ true → Made tree (Ret e)
-made-Ret tree parts e b left f1 = (
-  ap tree_of_stm (sym (rolls-Ret e)) ∙ fold-roll-Stm Tree stm_tree (layer.Ret e) ∙ form_of tree parts (codes "ret") (tree_of_expr e ∷ []) b left,
-  ap is_formed_stm (sym (rolls-Ret e)) ∙ fold-roll-Stm Bool stm_formed (layer.Ret e) ∙ f1,
+-- each form from its parts
+pub Ret-is : (parts : List Tree) (e : Expr) → tree_of_expr e ∷ [] ≡ parts → is_formed_expr e ≡ true → IsStm (form (codes "ret") parts) (made.Ret e)
+Ret-is parts e same f0 = (
+  ap tree_of_stm (sym (rolls-Ret e)) ∙ fold-roll-Stm Tree stm_tree (layer.Ret e) ∙ ap (form (codes "ret")) same,
+  ap is_formed_stm (sym (rolls-Ret e)) ∙ fold-roll-Stm Bool stm_formed (layer.Ret e) ∙ f0,
 )
 
-pub made-Let : (tree : Tree) (parts : List Tree) (x : List ℕ) (first : Stm) (second : Stm) → Begins tree parts (codes "let") → drop 1 parts ≡ word x ∷ tree_of_stm first ∷ tree_of_stm second ∷ [] →
-    is_name x ≡ true → is_formed_stm first ≡ true → is_formed_stm second ≡ true → Made tree (Let x first second)
-made-Let tree parts x first second b left f1 f2 f3 = (
-  ap tree_of_stm (sym (rolls-Let x first second)) ∙ fold-roll-Stm Tree stm_tree (layer.Let x first second) ∙ form_of tree parts (codes "let") (word x ∷ tree_of_stm first ∷ tree_of_stm second ∷ []) b left,
-  ap is_formed_stm (sym (rolls-Let x first second)) ∙ fold-roll-Stm Bool stm_formed (layer.Let x first second) ∙ rw (f1, f2, f3) refl,
+pub Let-is : (parts : List Tree) (x : List ℕ) (a : Stm) (b : Stm) → word x ∷ tree_of_stm a ∷ tree_of_stm b ∷ [] ≡ parts → is_name x ≡ true → is_formed_stm a ≡ true → is_formed_stm b ≡ true → IsStm (form (codes "let") parts) (made.Let x a b)
+Let-is parts x a b same f0 f1 f2 = (
+  ap tree_of_stm (sym (rolls-Let x a b)) ∙ fold-roll-Stm Tree stm_tree (layer.Let x a b) ∙ ap (form (codes "let")) same,
+  ap is_formed_stm (sym (rolls-Let x a b)) ∙ fold-roll-Stm Bool stm_formed (layer.Let x a b) ∙ rw (f0, f1, f2) refl,
 )
 
-pub made-If : (tree : Tree) (parts : List Tree) (test : Expr) (first : Stm) (second : Stm) → Begins tree parts (codes "if") → drop 1 parts ≡ tree_of_expr test ∷ tree_of_stm first ∷ tree_of_stm second ∷ [] →
-    is_formed_expr test ≡ true → is_formed_stm first ≡ true → is_formed_stm second ≡ true → Made tree (If test first second)
-made-If tree parts test first second b left f1 f2 f3 = (
-  ap tree_of_stm (sym (rolls-If test first second)) ∙ fold-roll-Stm Tree stm_tree (layer.If test first second) ∙ form_of tree parts (codes "if") (tree_of_expr test ∷ tree_of_stm first ∷ tree_of_stm second ∷ []) b left,
-  ap is_formed_stm (sym (rolls-If test first second)) ∙ fold-roll-Stm Bool stm_formed (layer.If test first second) ∙ rw (f1, f2, f3) refl,
+pub If-is : (parts : List Tree) (e : Expr) (a : Stm) (b : Stm) → tree_of_expr e ∷ tree_of_stm a ∷ tree_of_stm b ∷ [] ≡ parts → is_formed_expr e ≡ true → is_formed_stm a ≡ true → is_formed_stm b ≡ true → IsStm (form (codes "if") parts) (made.If e a b)
+If-is parts e a b same f0 f1 f2 = (
+  ap tree_of_stm (sym (rolls-If e a b)) ∙ fold-roll-Stm Tree stm_tree (layer.If e a b) ∙ ap (form (codes "if")) same,
+  ap is_formed_stm (sym (rolls-If e a b)) ∙ fold-roll-Stm Bool stm_formed (layer.If e a b) ∙ rw (f0, f1, f2) refl,
 )
 
-pub made-Read : (tree : Tree) (parts : List Tree) (x : List ℕ) → Begins tree parts (codes "read") → drop 1 parts ≡ word x ∷ [] →
-    is_name x ≡ true → Made tree (Read x)
-made-Read tree parts x b left f1 = (
-  ap tree_of_stm (sym (rolls-Read x)) ∙ fold-roll-Stm Tree stm_tree (layer.Read x) ∙ form_of tree parts (codes "read") (word x ∷ []) b left,
-  ap is_formed_stm (sym (rolls-Read x)) ∙ fold-roll-Stm Bool stm_formed (layer.Read x) ∙ f1,
+pub Read-is : (parts : List Tree) (r : List ℕ) → word r ∷ [] ≡ parts → is_name r ≡ true → IsStm (form (codes "read") parts) (made.Read r)
+Read-is parts r same f0 = (
+  ap tree_of_stm (sym (rolls-Read r)) ∙ fold-roll-Stm Tree stm_tree (layer.Read r) ∙ ap (form (codes "read")) same,
+  ap is_formed_stm (sym (rolls-Read r)) ∙ fold-roll-Stm Bool stm_formed (layer.Read r) ∙ f0,
 )
 
-pub made-Write : (tree : Tree) (parts : List Tree) (x : List ℕ) (e : Expr) → Begins tree parts (codes "write") → drop 1 parts ≡ word x ∷ tree_of_expr e ∷ [] →
-    is_name x ≡ true → is_formed_expr e ≡ true → Made tree (Write x e)
-made-Write tree parts x e b left f1 f2 = (
-  ap tree_of_stm (sym (rolls-Write x e)) ∙ fold-roll-Stm Tree stm_tree (layer.Write x e) ∙ form_of tree parts (codes "write") (word x ∷ tree_of_expr e ∷ []) b left,
-  ap is_formed_stm (sym (rolls-Write x e)) ∙ fold-roll-Stm Bool stm_formed (layer.Write x e) ∙ rw (f1, f2) refl,
+pub Write-is : (parts : List Tree) (r : List ℕ) (e : Expr) → word r ∷ tree_of_expr e ∷ [] ≡ parts → is_name r ≡ true → is_formed_expr e ≡ true → IsStm (form (codes "write") parts) (made.Write r e)
+Write-is parts r e same f0 f1 = (
+  ap tree_of_stm (sym (rolls-Write r e)) ∙ fold-roll-Stm Tree stm_tree (layer.Write r e) ∙ ap (form (codes "write")) same,
+  ap is_formed_stm (sym (rolls-Write r e)) ∙ fold-roll-Stm Bool stm_formed (layer.Write r e) ∙ rw (f0, f1) refl,
 )
 
-pub made-Load : (tree : Tree) (parts : List Tree) (e : Expr) → Begins tree parts (codes "load") → drop 1 parts ≡ tree_of_expr e ∷ [] →
-    is_formed_expr e ≡ true → Made tree (Load e)
-made-Load tree parts e b left f1 = (
-  ap tree_of_stm (sym (rolls-Load e)) ∙ fold-roll-Stm Tree stm_tree (layer.Load e) ∙ form_of tree parts (codes "load") (tree_of_expr e ∷ []) b left,
-  ap is_formed_stm (sym (rolls-Load e)) ∙ fold-roll-Stm Bool stm_formed (layer.Load e) ∙ f1,
+pub Load-is : (parts : List Tree) (e : Expr) → tree_of_expr e ∷ [] ≡ parts → is_formed_expr e ≡ true → IsStm (form (codes "load") parts) (made.Load e)
+Load-is parts e same f0 = (
+  ap tree_of_stm (sym (rolls-Load e)) ∙ fold-roll-Stm Tree stm_tree (layer.Load e) ∙ ap (form (codes "load")) same,
+  ap is_formed_stm (sym (rolls-Load e)) ∙ fold-roll-Stm Bool stm_formed (layer.Load e) ∙ f0,
 )
 
-pub made-Store : (tree : Tree) (parts : List Tree) (index : Expr) (e : Expr) → Begins tree parts (codes "store") → drop 1 parts ≡ tree_of_expr index ∷ tree_of_expr e ∷ [] →
-    is_formed_expr index ≡ true → is_formed_expr e ≡ true → Made tree (Store index e)
-made-Store tree parts index e b left f1 f2 = (
-  ap tree_of_stm (sym (rolls-Store index e)) ∙ fold-roll-Stm Tree stm_tree (layer.Store index e) ∙ form_of tree parts (codes "store") (tree_of_expr index ∷ tree_of_expr e ∷ []) b left,
-  ap is_formed_stm (sym (rolls-Store index e)) ∙ fold-roll-Stm Bool stm_formed (layer.Store index e) ∙ rw (f1, f2) refl,
+pub Store-is : (parts : List Tree) (i : Expr) (e : Expr) → tree_of_expr i ∷ tree_of_expr e ∷ [] ≡ parts → is_formed_expr i ≡ true → is_formed_expr e ≡ true → IsStm (form (codes "store") parts) (made.Store i e)
+Store-is parts i e same f0 f1 = (
+  ap tree_of_stm (sym (rolls-Store i e)) ∙ fold-roll-Stm Tree stm_tree (layer.Store i e) ∙ ap (form (codes "store")) same,
+  ap is_formed_stm (sym (rolls-Store i e)) ∙ fold-roll-Stm Bool stm_formed (layer.Store i e) ∙ rw (f0, f1) refl,
 )
 
-pub made-Check : (tree : Tree) (parts : List Tree) (e : Expr) → Begins tree parts (codes "check") → drop 1 parts ≡ tree_of_expr e ∷ [] →
-    is_formed_expr e ≡ true → Made tree (Check e)
-made-Check tree parts e b left f1 = (
-  ap tree_of_stm (sym (rolls-Check e)) ∙ fold-roll-Stm Tree stm_tree (layer.Check e) ∙ form_of tree parts (codes "check") (tree_of_expr e ∷ []) b left,
-  ap is_formed_stm (sym (rolls-Check e)) ∙ fold-roll-Stm Bool stm_formed (layer.Check e) ∙ f1,
+pub Check-is : (parts : List Tree) (e : Expr) → tree_of_expr e ∷ [] ≡ parts → is_formed_expr e ≡ true → IsStm (form (codes "check") parts) (made.Check e)
+Check-is parts e same f0 = (
+  ap tree_of_stm (sym (rolls-Check e)) ∙ fold-roll-Stm Tree stm_tree (layer.Check e) ∙ ap (form (codes "check")) same,
+  ap is_formed_stm (sym (rolls-Check e)) ∙ fold-roll-Stm Bool stm_formed (layer.Check e) ∙ f0,
 )
 
-pub made-Fail : (tree : Tree) (parts : List Tree) → Begins tree parts (codes "fail") → drop 1 parts ≡ [] →
-    Made tree Fail
-made-Fail tree parts b left = (
-  ap tree_of_stm (sym rolls-Fail) ∙ fold-roll-Stm Tree stm_tree layer.Fail ∙ form_of tree parts (codes "fail") ([]) b left,
+pub Call-is : (parts : List Tree) (x : List ℕ) (es : List Expr) → word x ∷ map tree_of_expr es ≡ parts → is_name x ≡ true → are_formed_exprs es ≡ true → IsStm (form (codes "call") parts) (made.Call x es)
+Call-is parts x es same f0 f1 = (
+  ap tree_of_stm (sym (rolls-Call x es)) ∙ fold-roll-Stm Tree stm_tree (layer.Call x es) ∙ ap (form (codes "call")) same,
+  ap is_formed_stm (sym (rolls-Call x es)) ∙ fold-roll-Stm Bool stm_formed (layer.Call x es) ∙ rw (f0, f1) refl,
+)
+
+pub Open-is : (parts : List Tree) (x : List ℕ) (es : List Expr) → word x ∷ map tree_of_expr es ≡ parts → is_name x ≡ true → are_formed_exprs es ≡ true → IsStm (form (codes "open") parts) (made.Open x es)
+Open-is parts x es same f0 f1 = (
+  ap tree_of_stm (sym (rolls-Open x es)) ∙ fold-roll-Stm Tree stm_tree (layer.Open x es) ∙ ap (form (codes "open")) same,
+  ap is_formed_stm (sym (rolls-Open x es)) ∙ fold-roll-Stm Bool stm_formed (layer.Open x es) ∙ rw (f0, f1) refl,
+)
+
+pub Close-is : (parts : List Tree) (x : List ℕ) (es : List Expr) → word x ∷ map tree_of_expr es ≡ parts → is_name x ≡ true → are_formed_exprs es ≡ true → IsStm (form (codes "close") parts) (made.Close x es)
+Close-is parts x es same f0 f1 = (
+  ap tree_of_stm (sym (rolls-Close x es)) ∙ fold-roll-Stm Tree stm_tree (layer.Close x es) ∙ ap (form (codes "close")) same,
+  ap is_formed_stm (sym (rolls-Close x es)) ∙ fold-roll-Stm Bool stm_formed (layer.Close x es) ∙ rw (f0, f1) refl,
+)
+
+pub Lemma-is : (parts : List Tree) (x : List ℕ) (es : List Expr) → word x ∷ map tree_of_expr es ≡ parts → is_name x ≡ true → are_formed_exprs es ≡ true → IsStm (form (codes "lemma") parts) (made.Lemma x es)
+Lemma-is parts x es same f0 f1 = (
+  ap tree_of_stm (sym (rolls-Lemma x es)) ∙ fold-roll-Stm Tree stm_tree (layer.Lemma x es) ∙ ap (form (codes "lemma")) same,
+  ap is_formed_stm (sym (rolls-Lemma x es)) ∙ fold-roll-Stm Bool stm_formed (layer.Lemma x es) ∙ rw (f0, f1) refl,
+)
+
+pub Fail-is : (parts : List Tree) → [] ≡ parts → IsStm (form (codes "fail") parts) made.Fail
+Fail-is parts same = (
+  ap tree_of_stm (sym rolls-Fail) ∙ fold-roll-Stm Tree stm_tree layer.Fail ∙ ap (form (codes "fail")) same,
   ap is_formed_stm (sym rolls-Fail) ∙ fold-roll-Stm Bool stm_formed layer.Fail,
 )
 
-pub made-Call : (tree : Tree) (parts : List Tree) (x : List ℕ) (args : List Expr) → Begins tree parts (codes "call") → drop 1 parts ≡ word x ∷ map tree_of_expr args →
-    is_name x ≡ true → are_formed_exprs args ≡ true → Made tree (Call x args)
-made-Call tree parts x args b left f1 f2 = (
-  ap tree_of_stm (sym (rolls-Call x args)) ∙ fold-roll-Stm Tree stm_tree (layer.Call x args) ∙ form_of tree parts (codes "call") (word x ∷ map tree_of_expr args) b left,
-  ap is_formed_stm (sym (rolls-Call x args)) ∙ fold-roll-Stm Bool stm_formed (layer.Call x args) ∙ rw (f1, f2) refl,
+some_mapped : {A B : Type 0} → (f : A → B) (xs : List A) → is_some (map f xs) ≡ is_some xs
+some_mapped f [] = refl
+some_mapped f (x ∷ xs) = refl
+
+pub Seq-is : (parts : List Tree) (ss : List Stm) → AreStms parts ss → (n : ℕ) → length parts ≡ n + 1 → IsStm (form (codes "seq") parts) (made.Seq ss)
+Seq-is parts ss are n long = (
+  ap tree_of_stm (sym (rolls-Seq ss)) ∙ fold-roll-Stm Tree stm_tree (layer.Seq ss) ∙ ap (form (codes "seq")) are.0,
+  ap is_formed_stm (sym (rolls-Seq ss)) ∙ fold-roll-Stm Bool stm_formed (layer.Seq ss)
+      ∙ both (is_some (map is_formed_stm ss)) (every (map is_formed_stm ss)) (some_mapped is_formed_stm ss ∙ some_made tree_of_stm ss parts are.0 n long) are.1,
 )
-
-pub made-Open : (tree : Tree) (parts : List Tree) (x : List ℕ) (args : List Expr) → Begins tree parts (codes "open") → drop 1 parts ≡ word x ∷ map tree_of_expr args →
-    is_name x ≡ true → are_formed_exprs args ≡ true → Made tree (Open x args)
-made-Open tree parts x args b left f1 f2 = (
-  ap tree_of_stm (sym (rolls-Open x args)) ∙ fold-roll-Stm Tree stm_tree (layer.Open x args) ∙ form_of tree parts (codes "open") (word x ∷ map tree_of_expr args) b left,
-  ap is_formed_stm (sym (rolls-Open x args)) ∙ fold-roll-Stm Bool stm_formed (layer.Open x args) ∙ rw (f1, f2) refl,
-)
-
-pub made-Close : (tree : Tree) (parts : List Tree) (x : List ℕ) (args : List Expr) → Begins tree parts (codes "close") → drop 1 parts ≡ word x ∷ map tree_of_expr args →
-    is_name x ≡ true → are_formed_exprs args ≡ true → Made tree (Close x args)
-made-Close tree parts x args b left f1 f2 = (
-  ap tree_of_stm (sym (rolls-Close x args)) ∙ fold-roll-Stm Tree stm_tree (layer.Close x args) ∙ form_of tree parts (codes "close") (word x ∷ map tree_of_expr args) b left,
-  ap is_formed_stm (sym (rolls-Close x args)) ∙ fold-roll-Stm Bool stm_formed (layer.Close x args) ∙ rw (f1, f2) refl,
-)
-
-pub made-Lemma : (tree : Tree) (parts : List Tree) (x : List ℕ) (args : List Expr) → Begins tree parts (codes "lemma") → drop 1 parts ≡ word x ∷ map tree_of_expr args →
-    is_name x ≡ true → are_formed_exprs args ≡ true → Made tree (Lemma x args)
-made-Lemma tree parts x args b left f1 f2 = (
-  ap tree_of_stm (sym (rolls-Lemma x args)) ∙ fold-roll-Stm Tree stm_tree (layer.Lemma x args) ∙ form_of tree parts (codes "lemma") (word x ∷ map tree_of_expr args) b left,
-  ap is_formed_stm (sym (rolls-Lemma x args)) ∙ fold-roll-Stm Bool stm_formed (layer.Lemma x args) ∙ rw (f1, f2) refl,
-)
-
--- an arm, made again of its parts
-abbrev pub case_tree : CaseArm Stm → Tree
-case_tree arm = tree_of_case_arm (case_arm.map Stm Tree tree_of_stm arm)
-
-abbrev pub case_formed : CaseArm Stm → Bool
-case_formed arm = is_formed_case_arm (case_arm.map Stm Bool is_formed_stm arm)
-
-abbrev pub match_tree : MatchArm Stm → Tree
-match_tree arm = tree_of_match_arm (match_arm.map Stm Tree tree_of_stm arm)
-
-abbrev pub match_formed : MatchArm Stm → Bool
-match_formed arm = is_formed_match_arm (match_arm.map Stm Bool is_formed_stm arm)
-
-pub case_made : (tree : Tree) (parts : List Tree) (arm : CaseArm Stm) → tree ≡ variant.List parts → parts ≡ word arm.member ∷ tree_of_stm arm.body ∷ [] →
-    is_name arm.member ≡ true → is_formed_stm arm.body ≡ true → (case_tree arm ≡ tree) × (case_formed arm ≡ true)
-case_made tree parts arm is made f1 f2 = (sym (is ∙ ap variant.List made), both (is_name arm.member) (is_formed_stm arm.body) f1 f2)
-
-pub match_made : (tree : Tree) (parts : List Tree) (arm : MatchArm Stm) → tree ≡ variant.List parts → parts ≡ word arm.ctor ∷ word arm.payload ∷ tree_of_stm arm.body ∷ [] →
-    is_name arm.ctor ≡ true → is_name arm.payload ≡ true → is_formed_stm arm.body ≡ true → (match_tree arm ≡ tree) × (match_formed arm ≡ true)
-match_made tree parts arm is made f1 f2 f3 =
-    (sym (is ∙ ap variant.List made), both (is_name arm.ctor) (is_name arm.payload && is_formed_stm arm.body) f1 (both (is_name arm.payload) (is_formed_stm arm.body) f2 f3))
 
 map_map : {A B C : Type 0} (f : B → C) (g : A → B) (xs : List A) → map f (map g xs) ≡ map (λ x. f (g x)) xs
 map_map f g [] = refl
 map_map f g (x ∷ xs) = ap (λ ys. f (g x) ∷ ys) (map_map f g xs)
 
-some_made : (made : List Stm) (rest : List Tree) → rest ≡ map tree_of_stm made → 1 ≤ length rest → is_some (map is_formed_stm made) ≡ true
-some_made [] rest e long = absurd (let none : length rest ≡ 0 = ap length e in omega arith)
-some_made (s ∷ made) rest e long = refl
-
-pub made-Seq : (tree : Tree) (parts : List Tree) (made : List Stm) → Begins tree parts (codes "seq") → 2 ≤ length parts → drop 1 parts ≡ map tree_of_stm made →
-    every (map is_formed_stm made) ≡ true → Made tree (Seq made)
-made-Seq tree parts made b long left f =
-    let some = some_made made (drop 1 parts) left (omega (arith, length-drop 1 parts)) in (
-      ap tree_of_stm (sym (rolls-Seq made)) ∙ fold-roll-Stm Tree stm_tree (layer.Seq made) ∙ form_of tree parts (codes "seq") (map tree_of_stm made) b left,
-      ap is_formed_stm (sym (rolls-Seq made)) ∙ fold-roll-Stm Bool stm_formed (layer.Seq made) ∙ both (is_some (map is_formed_stm made)) (every (map is_formed_stm made)) some f,
-    )
-
-pub made-Case : (tree : Tree) (parts : List Tree) (e : Expr) (arms : List (CaseArm Stm)) → Begins tree parts (codes "case") → drop 1 parts ≡ tree_of_expr e ∷ map case_tree arms →
-    is_formed_expr e ≡ true → every (map case_formed arms) ≡ true → Made tree (Case e arms)
-made-Case tree parts e arms b left f1 f2 = (
+pub Case-is : (parts rest : List Tree) (e : Expr) (arms : List (CaseArm Stm)) → tree_of_expr e ∷ rest ≡ parts → is_formed_expr e ≡ true → AreCaseArms rest arms →
+    IsStm (form (codes "case") parts) (made.Case e arms)
+Case-is parts rest e arms same f0 are = (
   ap tree_of_stm (sym (rolls-Case e arms)) ∙ fold-roll-Stm Tree stm_tree (layer.Case e arms)
-      ∙ ap (λ ts. form (codes "case") (tree_of_expr e ∷ ts)) (map_map tree_of_case_arm (case_arm.map Stm Tree tree_of_stm) arms)
-      ∙ form_of tree parts (codes "case") (tree_of_expr e ∷ map case_tree arms) b left,
+      ∙ ap (λ ts. form (codes "case") (tree_of_expr e ∷ ts)) (map_map tree_of_case_arm (case_arm.map Stm Tree tree_of_stm) arms ∙ are.0)
+      ∙ ap (form (codes "case")) same,
   ap is_formed_stm (sym (rolls-Case e arms)) ∙ fold-roll-Stm Bool stm_formed (layer.Case e arms)
-      ∙ both (is_formed_expr e) (every (map is_formed_case_arm (map (case_arm.map Stm Bool is_formed_stm) arms))) f1
-      (ap every (map_map is_formed_case_arm (case_arm.map Stm Bool is_formed_stm) arms) ∙ f2),
+      ∙ both (is_formed_expr e) (every (map is_formed_case_arm (map (case_arm.map Stm Bool is_formed_stm) arms))) f0
+      (ap every (map_map is_formed_case_arm (case_arm.map Stm Bool is_formed_stm) arms) ∙ are.1),
 )
 
-pub made-Match : (tree : Tree) (parts : List Tree) (e : Expr) (arms : List (MatchArm Stm)) → Begins tree parts (codes "match") → drop 1 parts ≡ tree_of_expr e ∷ map match_tree arms →
-    is_formed_expr e ≡ true → every (map match_formed arms) ≡ true → Made tree (Match e arms)
-made-Match tree parts e arms b left f1 f2 = (
+pub Match-is : (parts rest : List Tree) (e : Expr) (arms : List (MatchArm Stm)) → tree_of_expr e ∷ rest ≡ parts → is_formed_expr e ≡ true → AreMatchArms rest arms →
+    IsStm (form (codes "match") parts) (made.Match e arms)
+Match-is parts rest e arms same f0 are = (
   ap tree_of_stm (sym (rolls-Match e arms)) ∙ fold-roll-Stm Tree stm_tree (layer.Match e arms)
-      ∙ ap (λ ts. form (codes "match") (tree_of_expr e ∷ ts)) (map_map tree_of_match_arm (match_arm.map Stm Tree tree_of_stm) arms)
-      ∙ form_of tree parts (codes "match") (tree_of_expr e ∷ map match_tree arms) b left,
+      ∙ ap (λ ts. form (codes "match") (tree_of_expr e ∷ ts)) (map_map tree_of_match_arm (match_arm.map Stm Tree tree_of_stm) arms ∙ are.0)
+      ∙ ap (form (codes "match")) same,
   ap is_formed_stm (sym (rolls-Match e arms)) ∙ fold-roll-Stm Bool stm_formed (layer.Match e arms)
-      ∙ both (is_formed_expr e) (every (map is_formed_match_arm (map (match_arm.map Stm Bool is_formed_stm) arms))) f1
-      (ap every (map_map is_formed_match_arm (match_arm.map Stm Bool is_formed_stm) arms) ∙ f2),
+      ∙ both (is_formed_expr e) (every (map is_formed_match_arm (map (match_arm.map Stm Bool is_formed_stm) arms))) f0
+      (ap every (map_map is_formed_match_arm (match_arm.map Stm Bool is_formed_stm) arms) ∙ are.1),
 )
 
--- what stands behind the first parts of a list
-pub rest_is : (parts : List Tree) (k : ℕ) → take (length parts - k) (drop k parts) ≡ drop k parts
-rest_is parts k = take_all (length parts - k) (drop k parts) (omega (arith, length-drop k parts))
+-- a statement of right form fits
+abbrev StmFits : Stm → Type 0
+StmFits s = is_formed_stm s ≡ true → fits sort.Statement (tree_of_stm s) ≡ true
 
--- the parts behind the first ones fit
-pub others_fit : (first : List Sort) (sort : Sort) (parts : List Tree) → list_fits (sorts_of (many first sort) (length parts)) (map judged parts) ≡ true →
-    AllByRecursion (Fits sort) (take (length parts - length first) (drop (length first) parts))
-others_fit first sort parts fit = subst (AllByRecursion (Fits sort)) (sym (rest_is parts (length first))) (rest_fit first sort (length parts) parts refl fit)
+fitting_stms : (ss : List ((s : Stm) × StmFits s)) → every (map is_formed_stm (map (λ s. s.0) ss)) ≡ true → AllByRecursion (FitsSort sort.Statement) (map tree_of_stm (map (λ s. s.0) ss))
+fitting_stms [] f = tt
+fitting_stms (s ∷ ss) f = let h = apart (is_formed_stm s.0) (every (map is_formed_stm (map (λ s. s.0) ss))) f in (s.1 h.0, fitting_stms ss h.1)
 
--- one of the parts of a list of these parts alone
-pub part_fits : (sorts : List Sort) (parts : List Tree) (i : ℕ) (part : Tree) → list_fits (sorts_of (exactly sorts) (length parts)) (map judged parts) ≡ true →
-    i < length sorts → At parts i part → Fits (get_or sorts i sort.Word) part
-part_fits sorts parts i part fit within at =
-    let exact = exact_fit sorts (length parts) (map judged parts) fit in
-    part_fit sorts parts i part exact.1 within (omega (arith, exact.0)) at
-
--- the shape of the forms that name something
-pub naming_shape : (head : StmHead) → is_naming head ≡ true → shape_of_stm head ≡ many (sort.Word ∷ sort.Name ∷ []) sort.Expression
-naming_shape head.Call e = refl
-naming_shape head.Open e = refl
-naming_shape head.Close e = refl
-naming_shape head.Lemma e = refl
-naming_shape _ e = absurd (false≢true e)
-
--- the parts of a sequence
-abbrev seq_fits : List Tree → Type 0
-seq_fits parts = list_fits (sorts_of (many (sort.Word ∷ sort.Statement ∷ []) sort.Statement) (length parts)) (map judged parts) ≡ true
-
-pub seq_long : (parts : List Tree) → seq_fits parts → 2 ≤ length parts
-seq_long parts fit = (many_fit (sort.Word ∷ sort.Statement ∷ []) sort.Statement (length parts) parts refl fit).0
-
-pub seq_fit : (parts : List Tree) → seq_fits parts → AllByRecursion (Fits sort.Statement) (take (length parts - 1) (drop 1 parts))
-seq_fit [] fit = absurd (cc)
-seq_fit (w ∷ []) fit = absurd (cc)
-seq_fit (w ∷ s ∷ parts) fit =
-    let whole = many_fit (sort.Word ∷ sort.Statement ∷ []) sort.Statement (length (w ∷ s ∷ parts)) (w ∷ s ∷ parts) refl fit in
-    subst (AllByRecursion (Fits sort.Statement)) (sym (rest_is (w ∷ s ∷ parts) 1)) (
-      part_fit (sort.Word ∷ sort.Statement ∷ replicate (length (w ∷ s ∷ parts) - 2) sort.Statement) (w ∷ s ∷ parts) 1 s whole.1 (omega arith) (omega arith) refl,
-      rest_fit (sort.Word ∷ sort.Statement ∷ []) sort.Statement (length (w ∷ s ∷ parts)) (w ∷ s ∷ parts) refl fit,
+fitting_case_arms : (arms : List (CaseArm ((s : Stm) × StmFits s))) →
+    every (map is_formed_case_arm (map (case_arm.map Stm Bool is_formed_stm) (map (case_arm.map ((s : Stm) × StmFits s) Stm (λ s. s.0)) arms))) ≡ true →
+    AllByRecursion (FitsSort sort.CaseArm) (map tree_of_case_arm (map (case_arm.map Stm Tree tree_of_stm) (map (case_arm.map ((s : Stm) × StmFits s) Stm (λ s. s.0)) arms)))
+fitting_case_arms [] f = tt
+fitting_case_arms (arm ∷ arms) f =
+    let h = apart (is_name arm.member && is_formed_stm arm.body.0) _ f in
+    let i = apart (is_name arm.member) (is_formed_stm arm.body.0) h.0 in (
+      place_fits sort.CaseArm (word arm.member ∷ tree_of_stm arm.body.0 ∷ []) (exactly (sort.Name ∷ sort.Statement ∷ [])) (sort.Name ∷ sort.Statement ∷ []) (λ found. refl) refl
+          (name_fits arm.member i.0, (arm.body.1 i.1, tt)),
+      fitting_case_arms arms h.1,
     )
 
--- how many trees there are in trees
-abbrev pub counts : List Tree → ℕ
-counts = sum_by (λ (t : Tree). (judged t).count)
+fitting_match_arms : (arms : List (MatchArm ((s : Stm) × StmFits s))) →
+    every (map is_formed_match_arm (map (match_arm.map Stm Bool is_formed_stm) (map (match_arm.map ((s : Stm) × StmFits s) Stm (λ s. s.0)) arms))) ≡ true →
+    AllByRecursion (FitsSort sort.MatchArm) (map tree_of_match_arm (map (match_arm.map Stm Tree tree_of_stm) (map (match_arm.map ((s : Stm) × StmFits s) Stm (λ s. s.0)) arms)))
+fitting_match_arms [] f = tt
+fitting_match_arms (arm ∷ arms) f =
+    let h = apart (is_name arm.ctor && (is_name arm.payload && is_formed_stm arm.body.0)) _ f in
+    let i = apart (is_name arm.ctor) (is_name arm.payload && is_formed_stm arm.body.0) h.0 in
+    let j = apart (is_name arm.payload) (is_formed_stm arm.body.0) i.1 in (
+      place_fits sort.MatchArm (word arm.ctor ∷ word arm.payload ∷ tree_of_stm arm.body.0 ∷ []) (exactly (sort.Name ∷ sort.Name ∷ sort.Statement ∷ [])) (sort.Name ∷ sort.Name ∷ sort.Statement ∷ []) (λ found. refl) refl
+          (name_fits arm.ctor i.0, (name_fits arm.payload j.0, (arm.body.1 j.1, tt))),
+      fitting_match_arms arms h.1,
+    )
 
-counts_judged : (parts : List Tree) → count_of_parts (map judged parts) ≡ counts parts
-counts_judged [] = refl
-counts_judged (t ∷ parts) =
-    omega (arith, sum_by-cons (λ (t : Tree). (judged t).count) t parts, sum_by-cons (λ (j : Judged). j.count) (judged t) (map judged parts), counts_judged parts)
+seq_fits : (trees : List Tree) → is_some trees ≡ true → AllByRecursion (FitsSort sort.Statement) trees → fits sort.Statement (form (codes "seq") trees) ≡ true
+seq_fits [] some all = absurd (cc)
+seq_fits (t ∷ trees) some all = headed_many sort.Statement sort.Statement sort.Statement (codes "seq") t trees refl all.0 all.1
 
--- the parts from a place on have fewer than the whole
-pub fewer : (tree : Tree) (parts rest : List Tree) (k : ℕ) → tree ≡ variant.List parts → rest ≡ drop k parts → counts rest < (judged tree).count
-fewer tree parts rest k is same = omega (arith, counts_judged rest, rest_less tree parts rest k is same)
+some_map : {A B : Type 0} → (f : A → B) (xs : List A) → is_some (map f xs) ≡ is_some xs
+some_map f [] = refl
+some_map f (x ∷ xs) = refl
 
--- and no more than all of them
-pub no_more : (parts rest : List Tree) (k : ℕ) → rest ≡ drop k parts → counts rest ≤ count_of_parts (map judged parts)
-no_more parts rest k same = omega (arith, counts_judged rest, rest_among parts rest k same)
+stm_layer : (y : layer.Stm-F ((s : Stm) × StmFits s)) →
+    stm_formed (map-Stm Stm Bool is_formed_stm (map-Stm ((s : Stm) × StmFits s) Stm (λ s. s.0) y)) ≡ true →
+    fits sort.Statement (stm_tree (map-Stm Stm Tree tree_of_stm (map-Stm ((s : Stm) × StmFits s) Stm (λ s. s.0) y))) ≡ true
+stm_layer (layer.Ret e) f = form_fits sort.Statement (codes "ret") _ _ (sort.Expression ∷ []) refl refl (expr_fits e f, tt)
+stm_layer (layer.Let x a b) f = let h = apart (is_name x) (is_formed_stm a.0 && is_formed_stm b.0) f in let i = apart (is_formed_stm a.0) (is_formed_stm b.0) h.1 in
+    form_fits sort.Statement (codes "let") _ _ (sort.Name ∷ sort.Statement ∷ sort.Statement ∷ []) refl refl (name_fits x h.0, (a.1 i.0, (b.1 i.1, tt)))
+stm_layer (layer.Seq parts) f =
+    let trees = map tree_of_stm (map (λ s. s.0) parts) in
+    let h = apart (is_some (map is_formed_stm (map (λ (s : (s : Stm) × StmFits s). s.0) parts))) (every (map is_formed_stm (map (λ s. s.0) parts))) f in
+    seq_fits trees (some_map tree_of_stm (map (λ s. s.0) parts) ∙ sym (some_map is_formed_stm (map (λ s. s.0) parts)) ∙ h.0) (fitting_stms parts h.1)
+stm_layer (layer.If e a b) f = let h = apart (is_formed_expr e) (is_formed_stm a.0 && is_formed_stm b.0) f in let i = apart (is_formed_stm a.0) (is_formed_stm b.0) h.1 in
+    form_fits sort.Statement (codes "if") _ _ (sort.Expression ∷ sort.Statement ∷ sort.Statement ∷ []) refl refl (expr_fits e h.0, (a.1 i.0, (b.1 i.1, tt)))
+stm_layer (layer.Case e arms) f = let h = apart (is_formed_expr e) _ f in
+    headed_many sort.Statement sort.Expression sort.CaseArm (codes "case") (tree_of_expr e) _ refl (expr_fits e h.0) (fitting_case_arms arms h.1)
+stm_layer (layer.Match e arms) f = let h = apart (is_formed_expr e) _ f in
+    headed_many sort.Statement sort.Expression sort.MatchArm (codes "match") (tree_of_expr e) _ refl (expr_fits e h.0) (fitting_match_arms arms h.1)
+stm_layer (layer.Read r) f = form_fits sort.Statement (codes "read") _ _ (sort.Name ∷ []) refl refl (name_fits r f, tt)
+stm_layer (layer.Write r e) f = let h = apart (is_name r) (is_formed_expr e) f in
+    form_fits sort.Statement (codes "write") _ _ (sort.Name ∷ sort.Expression ∷ []) refl refl (name_fits r h.0, (expr_fits e h.1, tt))
+stm_layer (layer.Load e) f = form_fits sort.Statement (codes "load") _ _ (sort.Expression ∷ []) refl refl (expr_fits e f, tt)
+stm_layer (layer.Store i e) f = let h = apart (is_formed_expr i) (is_formed_expr e) f in
+    form_fits sort.Statement (codes "store") _ _ (sort.Expression ∷ sort.Expression ∷ []) refl refl (expr_fits i h.0, (expr_fits e h.1, tt))
+stm_layer (layer.Call x args) f = let h = apart (is_name x) (are_formed_exprs args) f in named_many sort.Statement sort.Expression (codes "call") x (map tree_of_expr args) refl h.0 (exprs_fit args h.1)
+stm_layer (layer.Check e) f = form_fits sort.Statement (codes "check") _ _ (sort.Expression ∷ []) refl refl (expr_fits e f, tt)
+stm_layer layer.Fail f = form_fits sort.Statement (codes "fail") [] _ [] refl refl tt
+stm_layer (layer.Open x args) f = let h = apart (is_name x) (are_formed_exprs args) f in named_many sort.Statement sort.Expression (codes "open") x (map tree_of_expr args) refl h.0 (exprs_fit args h.1)
+stm_layer (layer.Close x args) f = let h = apart (is_name x) (are_formed_exprs args) f in named_many sort.Statement sort.Expression (codes "close") x (map tree_of_expr args) refl h.0 (exprs_fit args h.1)
+stm_layer (layer.Lemma x args) f = let h = apart (is_name x) (are_formed_exprs args) f in named_many sort.Statement sort.Expression (codes "lemma") x (map tree_of_expr args) refl h.0 (exprs_fit args h.1)
+
+pub stm_fits : (s : Stm) → is_formed_stm s ≡ true → fits sort.Statement (tree_of_stm s) ≡ true
+stm_fits = ind-Stm StmFits (λ x y is f.
+    ap (fits sort.Statement) (fold-roll-Stm Tree stm_tree x)
+    ∙ subst (λ z. stm_formed (map-Stm Stm Bool is_formed_stm z) ≡ true → fits sort.Statement (stm_tree (map-Stm Stm Tree tree_of_stm z)) ≡ true) is (stm_layer y)
+    (sym (fold-roll-Stm Bool stm_formed x) ∙ f))
+
+pub stms_fit : (ss : List Stm) → every (map is_formed_stm ss) ≡ true → AllByRecursion (FitsSort sort.Statement) (map tree_of_stm ss)
+stms_fit [] f = tt
+stms_fit (s ∷ ss) f = let h = apart (is_formed_stm s) (every (map is_formed_stm ss)) f in (stm_fits s h.0, stms_fit ss h.1)
+
+-- What fits is a statement, or an arm.
+pub record StmOf (t : Tree) : Type 0 where
+  pub stm : FitsSort sort.Statement t → (s : Stm) × IsStm t s
+  pub case_arm : FitsSort sort.CaseArm t → (arm : CaseArm Stm) × IsCaseArm t arm
+  pub match_arm : FitsSort sort.MatchArm t → (arm : MatchArm Stm) × IsMatchArm t arm
+
+abbrev Known : Type 0
+Known = (t : Tree) × StmOf t
+
+abbrev trees : List Known → List Tree
+trees ps = map (λ p. p.0) ps
+
+stms_from : (ps : List Known) → AllByRecursion (FitsSort sort.Statement) (trees ps) → (ss : List Stm) × AreStms (trees ps) ss
+stms_from [] all = ([], (refl, refl))
+stms_from (p ∷ ps) all =
+    let s = p.1.stm all.0 in let ss = stms_from ps all.1 in
+    (s.0 ∷ ss.0, (same_first s.1.0 ss.1.0, both (is_formed_stm s.0) (every (map is_formed_stm ss.0)) s.1.1 ss.1.1))
+
+case_arms_from : (ps : List Known) → AllByRecursion (FitsSort sort.CaseArm) (trees ps) → (arms : List (CaseArm Stm)) × AreCaseArms (trees ps) arms
+case_arms_from [] all = ([], (refl, refl))
+case_arms_from (p ∷ ps) all =
+    let a = p.1.case_arm all.0 in let arms = case_arms_from ps all.1 in
+    (a.0 ∷ arms.0, (same_first a.1.0 arms.1.0, both (case_formed a.0) (every (map case_formed arms.0)) a.1.1 arms.1.1))
+
+match_arms_from : (ps : List Known) → AllByRecursion (FitsSort sort.MatchArm) (trees ps) → (arms : List (MatchArm Stm)) × AreMatchArms (trees ps) arms
+match_arms_from [] all = ([], (refl, refl))
+match_arms_from (p ∷ ps) all =
+    let a = p.1.match_arm all.0 in let arms = match_arms_from ps all.1 in
+    (a.0 ∷ arms.0, (same_first a.1.0 arms.1.0, both (match_formed a.0) (every (map match_formed arms.0)) a.1.1 arms.1.1))
+
+case_arm-from : (ps : List Known) → HasParts (sort.Name ∷ sort.Statement ∷ []) (trees ps) → (arm : CaseArm Stm) × IsCaseArm (variant.List (trees ps)) arm
+case_arm-from (p0 ∷ p1 ∷ []) h =
+    let x = name_of p0.0 h.fit.0 in let s = p1.1.stm h.fit.1.0 in
+    (record { member = x.0; body = s.0 }, (ap variant.List (same2 x.1.0 s.1.0), both (is_name x.0) (is_formed_stm s.0) x.1.1 s.1.1))
+case_arm-from _ h = absurd (omega (arith, h.count))
+
+match_arm-from : (ps : List Known) → HasParts (sort.Name ∷ sort.Name ∷ sort.Statement ∷ []) (trees ps) → (arm : MatchArm Stm) × IsMatchArm (variant.List (trees ps)) arm
+match_arm-from (p0 ∷ p1 ∷ p2 ∷ []) h =
+    let x = name_of p0.0 h.fit.0 in let y = name_of p1.0 h.fit.1.0 in let s = p2.1.stm h.fit.1.1.0 in (
+      record { ctor = x.0; payload = y.0; body = s.0 },
+      (ap variant.List (same3 x.1.0 y.1.0 s.1.0), both (is_name x.0) (is_name y.0 && is_formed_stm s.0) x.1.1 (both (is_name y.0) (is_formed_stm s.0) y.1.1 s.1.1)),
+    )
+match_arm-from _ h = absurd (omega (arith, h.count))
+
+ret-from : (ps : List Known) → HasParts (sort.Expression ∷ []) (trees ps) → (x : Stm) × IsStm (form (codes "ret") (trees ps)) x
+ret-from (p0 ∷ []) h =
+    let v0 = expr_of p0.0 h.fit.0 in
+    (made.Ret v0.0, Ret-is _ v0.0 (same1 v0.1.0) v0.1.1)
+ret-from _ h = absurd (omega (arith, h.count))
+
+let-from : (ps : List Known) → HasParts (sort.Name ∷ sort.Statement ∷ sort.Statement ∷ []) (trees ps) → (x : Stm) × IsStm (form (codes "let") (trees ps)) x
+let-from (p0 ∷ p1 ∷ p2 ∷ []) h =
+    let v0 = name_of p0.0 h.fit.0 in
+    let v1 = p1.1.stm h.fit.1.0 in
+    let v2 = p2.1.stm h.fit.1.1.0 in
+    (made.Let v0.0 v1.0 v2.0, Let-is _ v0.0 v1.0 v2.0 (same3 v0.1.0 v1.1.0 v2.1.0) v0.1.1 v1.1.1 v2.1.1)
+let-from _ h = absurd (omega (arith, h.count))
+
+if-from : (ps : List Known) → HasParts (sort.Expression ∷ sort.Statement ∷ sort.Statement ∷ []) (trees ps) → (x : Stm) × IsStm (form (codes "if") (trees ps)) x
+if-from (p0 ∷ p1 ∷ p2 ∷ []) h =
+    let v0 = expr_of p0.0 h.fit.0 in
+    let v1 = p1.1.stm h.fit.1.0 in
+    let v2 = p2.1.stm h.fit.1.1.0 in
+    (made.If v0.0 v1.0 v2.0, If-is _ v0.0 v1.0 v2.0 (same3 v0.1.0 v1.1.0 v2.1.0) v0.1.1 v1.1.1 v2.1.1)
+if-from _ h = absurd (omega (arith, h.count))
+
+read-from : (ps : List Known) → HasParts (sort.Name ∷ []) (trees ps) → (x : Stm) × IsStm (form (codes "read") (trees ps)) x
+read-from (p0 ∷ []) h =
+    let v0 = name_of p0.0 h.fit.0 in
+    (made.Read v0.0, Read-is _ v0.0 (same1 v0.1.0) v0.1.1)
+read-from _ h = absurd (omega (arith, h.count))
+
+write-from : (ps : List Known) → HasParts (sort.Name ∷ sort.Expression ∷ []) (trees ps) → (x : Stm) × IsStm (form (codes "write") (trees ps)) x
+write-from (p0 ∷ p1 ∷ []) h =
+    let v0 = name_of p0.0 h.fit.0 in
+    let v1 = expr_of p1.0 h.fit.1.0 in
+    (made.Write v0.0 v1.0, Write-is _ v0.0 v1.0 (same2 v0.1.0 v1.1.0) v0.1.1 v1.1.1)
+write-from _ h = absurd (omega (arith, h.count))
+
+load-from : (ps : List Known) → HasParts (sort.Expression ∷ []) (trees ps) → (x : Stm) × IsStm (form (codes "load") (trees ps)) x
+load-from (p0 ∷ []) h =
+    let v0 = expr_of p0.0 h.fit.0 in
+    (made.Load v0.0, Load-is _ v0.0 (same1 v0.1.0) v0.1.1)
+load-from _ h = absurd (omega (arith, h.count))
+
+store-from : (ps : List Known) → HasParts (sort.Expression ∷ sort.Expression ∷ []) (trees ps) → (x : Stm) × IsStm (form (codes "store") (trees ps)) x
+store-from (p0 ∷ p1 ∷ []) h =
+    let v0 = expr_of p0.0 h.fit.0 in
+    let v1 = expr_of p1.0 h.fit.1.0 in
+    (made.Store v0.0 v1.0, Store-is _ v0.0 v1.0 (same2 v0.1.0 v1.1.0) v0.1.1 v1.1.1)
+store-from _ h = absurd (omega (arith, h.count))
+
+check-from : (ps : List Known) → HasParts (sort.Expression ∷ []) (trees ps) → (x : Stm) × IsStm (form (codes "check") (trees ps)) x
+check-from (p0 ∷ []) h =
+    let v0 = expr_of p0.0 h.fit.0 in
+    (made.Check v0.0, Check-is _ v0.0 (same1 v0.1.0) v0.1.1)
+check-from _ h = absurd (omega (arith, h.count))
+
+call-from : (ps : List Known) → HasParts (sort.Name ∷ replicate (length (trees ps) - 1) sort.Expression) (trees ps) → (x : Stm) × IsStm (form (codes "call") (trees ps)) x
+call-from [] h = absurd h.fit
+call-from (p ∷ ps) h =
+    let k = name_of p.0 h.fit.0 in
+    let es = exprs_of (trees ps) (rest_fits (sort.Name ∷ []) sort.Expression (length (trees (p ∷ ps)) - 1) (trees (p ∷ ps)) h) in
+    (made.Call k.0 es.0, Call-is _ k.0 es.0 (same_first k.1.0 es.1.0) k.1.1 es.1.1)
+
+open-from : (ps : List Known) → HasParts (sort.Name ∷ replicate (length (trees ps) - 1) sort.Expression) (trees ps) → (x : Stm) × IsStm (form (codes "open") (trees ps)) x
+open-from [] h = absurd h.fit
+open-from (p ∷ ps) h =
+    let k = name_of p.0 h.fit.0 in
+    let es = exprs_of (trees ps) (rest_fits (sort.Name ∷ []) sort.Expression (length (trees (p ∷ ps)) - 1) (trees (p ∷ ps)) h) in
+    (made.Open k.0 es.0, Open-is _ k.0 es.0 (same_first k.1.0 es.1.0) k.1.1 es.1.1)
+
+close-from : (ps : List Known) → HasParts (sort.Name ∷ replicate (length (trees ps) - 1) sort.Expression) (trees ps) → (x : Stm) × IsStm (form (codes "close") (trees ps)) x
+close-from [] h = absurd h.fit
+close-from (p ∷ ps) h =
+    let k = name_of p.0 h.fit.0 in
+    let es = exprs_of (trees ps) (rest_fits (sort.Name ∷ []) sort.Expression (length (trees (p ∷ ps)) - 1) (trees (p ∷ ps)) h) in
+    (made.Close k.0 es.0, Close-is _ k.0 es.0 (same_first k.1.0 es.1.0) k.1.1 es.1.1)
+
+lemma-from : (ps : List Known) → HasParts (sort.Name ∷ replicate (length (trees ps) - 1) sort.Expression) (trees ps) → (x : Stm) × IsStm (form (codes "lemma") (trees ps)) x
+lemma-from [] h = absurd h.fit
+lemma-from (p ∷ ps) h =
+    let k = name_of p.0 h.fit.0 in
+    let es = exprs_of (trees ps) (rest_fits (sort.Name ∷ []) sort.Expression (length (trees (p ∷ ps)) - 1) (trees (p ∷ ps)) h) in
+    (made.Lemma k.0 es.0, Lemma-is _ k.0 es.0 (same_first k.1.0 es.1.0) k.1.1 es.1.1)
+
+fail-from : (ps : List Known) → HasParts [] (trees ps) → (x : Stm) × IsStm (form (codes "fail") (trees ps)) x
+fail-from [] h = (made.Fail, Fail-is _ refl)
+fail-from (p ∷ ps) h = absurd h.fit
+
+seq-from : (ps : List Known) → HasParts (sort.Statement ∷ replicate (length (trees ps) - 1) sort.Statement) (trees ps) → (x : Stm) × IsStm (form (codes "seq") (trees ps)) x
+seq-from ps h =
+    let ss = stms_from ps (some_fit sort.Statement (length (trees ps) - 1) (trees ps) h) in
+    (made.Seq ss.0, Seq-is (trees ps) ss.0 ss.1 (length (trees ps) - 1) (omega (arith, h.count, length-replicate (length (trees ps) - 1) sort.Statement)))
+
+case-from : (ps : List Known) → HasParts (sort.Expression ∷ replicate (length (trees ps) - 1) sort.CaseArm) (trees ps) → (x : Stm) × IsStm (form (codes "case") (trees ps)) x
+case-from [] h = absurd h.fit
+case-from (p ∷ ps) h =
+    let e = expr_of p.0 h.fit.0 in
+    let arms = case_arms_from ps (rest_fits (sort.Expression ∷ []) sort.CaseArm (length (trees (p ∷ ps)) - 1) (trees (p ∷ ps)) h) in
+    (made.Case e.0 arms.0, Case-is _ (trees ps) e.0 arms.0 (ap (λ t. t ∷ trees ps) e.1.0) e.1.1 arms.1)
+
+match-from : (ps : List Known) → HasParts (sort.Expression ∷ replicate (length (trees ps) - 1) sort.MatchArm) (trees ps) → (x : Stm) × IsStm (form (codes "match") (trees ps)) x
+match-from [] h = absurd h.fit
+match-from (p ∷ ps) h =
+    let e = expr_of p.0 h.fit.0 in
+    let arms = match_arms_from ps (rest_fits (sort.Expression ∷ []) sort.MatchArm (length (trees (p ∷ ps)) - 1) (trees (p ∷ ps)) h) in
+    (made.Match e.0 arms.0, Match-is _ (trees ps) e.0 arms.0 (ap (λ t. t ∷ trees ps) e.1.0) e.1.1 arms.1)
+
+-- the form of a word
+abbrev ListOf : List ℕ → Form → Type 0
+ListOf w f = (ps : List Known) → FitsSort sort.Statement (form w (trees ps)) → (x : Stm) × IsStm (form w (trees ps)) x
+
+list_rows : AllByRecursion (λ (row : List ℕ × Form). ListOf row.0 row.1) statements
+list_rows = (
+  λ ps fit. ret-from ps (exact_parts sort.Statement (codes "ret") (sort.Expression ∷ []) (trees ps) refl fit),
+  (
+    λ ps fit. let-from ps (exact_parts sort.Statement (codes "let") (sort.Name ∷ sort.Statement ∷ sort.Statement ∷ []) (trees ps) refl fit),
+    (
+      λ ps fit. seq-from ps (many_parts sort.Statement (codes "seq") (sort.Statement ∷ []) sort.Statement (trees ps) refl fit),
+      (
+        λ ps fit. if-from ps (exact_parts sort.Statement (codes "if") (sort.Expression ∷ sort.Statement ∷ sort.Statement ∷ []) (trees ps) refl fit),
+        (
+          λ ps fit. case-from ps (many_parts sort.Statement (codes "case") (sort.Expression ∷ []) sort.CaseArm (trees ps) refl fit),
+          (
+            λ ps fit. match-from ps (many_parts sort.Statement (codes "match") (sort.Expression ∷ []) sort.MatchArm (trees ps) refl fit),
+            (
+              λ ps fit. read-from ps (exact_parts sort.Statement (codes "read") (sort.Name ∷ []) (trees ps) refl fit),
+              (
+                λ ps fit. write-from ps (exact_parts sort.Statement (codes "write") (sort.Name ∷ sort.Expression ∷ []) (trees ps) refl fit),
+                (
+                  λ ps fit. load-from ps (exact_parts sort.Statement (codes "load") (sort.Expression ∷ []) (trees ps) refl fit),
+                  (
+                    λ ps fit. store-from ps (exact_parts sort.Statement (codes "store") (sort.Expression ∷ sort.Expression ∷ []) (trees ps) refl fit),
+                    (
+                      λ ps fit. call-from ps (many_parts sort.Statement (codes "call") (sort.Name ∷ []) sort.Expression (trees ps) refl fit),
+                      (
+                        λ ps fit. check-from ps (exact_parts sort.Statement (codes "check") (sort.Expression ∷ []) (trees ps) refl fit),
+                        (
+                          λ ps fit. fail-from ps (exact_parts sort.Statement (codes "fail") [] (trees ps) refl fit),
+                          (
+                            λ ps fit. open-from ps (many_parts sort.Statement (codes "open") (sort.Name ∷ []) sort.Expression (trees ps) refl fit),
+                            (
+                              λ ps fit. close-from ps (many_parts sort.Statement (codes "close") (sort.Name ∷ []) sort.Expression (trees ps) refl fit),
+                              (λ ps fit. lemma-from ps (many_parts sort.Statement (codes "lemma") (sort.Name ∷ []) sort.Expression (trees ps) refl fit), tt),
+                            ),
+                          ),
+                        ),
+                      ),
+                    ),
+                  ),
+                ),
+              ),
+            ),
+          ),
+        ),
+      ),
+    ),
+  ),
+)
+
+list_by : (w : List ℕ) (ps : List Known) (found : Option Form) → row_of statements w ≡ found → FitsSort sort.Statement (form w (trees ps)) →
+    (x : Stm) × IsStm (form w (trees ps)) x
+list_by w ps None none fit = absurd (no_form sort.Statement w (trees ps) (ap (option_and_then (form_in newest)) none) fit)
+list_by w ps (Some f) found fit = found_holds ListOf statements w f list_rows found ps fit
+
+list_of : (ps : List Known) → FitsSort sort.Statement (variant.List (trees ps)) → (x : Stm) × IsStm (variant.List (trees ps)) x
+list_of [] fit = absurd (let h = headed sort.Statement [] refl fit in omega (arith, ap length h.is))
+list_of (p ∷ ps) fit =
+    let h = headed sort.Statement (trees (p ∷ ps)) refl fit in
+    let first : p.0 ≡ word h.head = let e = h.is in cc in
+    let is : variant.List (trees (p ∷ ps)) ≡ form h.head (trees ps) = ap (λ t. variant.List (t ∷ trees ps)) first in
+    subst (λ t. (x : Stm) × IsStm t x) (sym is)
+    (list_by h.head ps (row_of statements h.head) refl (subst (FitsSort sort.Statement) is fit))
+
+stm_atom : (t : Token) → StmOf (variant.Atom t)
+stm_atom t = record {
+  stm = λ fit. absurd (no_atom sort.Statement t (record { numbers = λ n. refl; names = λ x. refl }) fit);
+  case_arm = λ fit. absurd (no_atom sort.CaseArm t (record { numbers = λ n. refl; names = λ x. refl }) fit);
+  match_arm = λ fit. absurd (no_atom sort.MatchArm t (record { numbers = λ n. refl; names = λ x. refl }) fit);
+}
+
+stm_layer_of : (y : Tree-F Known) → StmOf (roll-Tree (map-Tree Known Tree (λ p. p.0) y))
+stm_layer_of (Tree-F.Atom t) = subst StmOf (sym (rolls-Atom t)) (stm_atom t)
+stm_layer_of (Tree-F.List ps) = subst StmOf (sym (rolls-List (trees ps))) (record {
+  stm = list_of ps;
+  case_arm = λ fit. case_arm-from ps (exact_place sort.CaseArm (sort.Name ∷ sort.Statement ∷ []) (trees ps) (λ found. refl) fit);
+  match_arm = λ fit. match_arm-from ps (exact_place sort.MatchArm (sort.Name ∷ sort.Name ∷ sort.Statement ∷ []) (trees ps) (λ found. refl) fit);
+})
+
+known : (t : Tree) → StmOf t
+known = ind-Tree StmOf (λ x y is. subst (λ z. StmOf (roll-Tree z)) is (stm_layer_of y))
+
+pub stm_of : (t : Tree) → FitsSort sort.Statement t → (s : Stm) × IsStm t s
+stm_of t fit = (known t).stm fit
+
+pub stms_of : (ts : List Tree) → AllByRecursion (FitsSort sort.Statement) ts → (ss : List Stm) × AreStms ts ss
+stms_of [] all = ([], (refl, refl))
+stms_of (t ∷ ts) all =
+    let s = stm_of t all.0 in let ss = stms_of ts all.1 in
+    (s.0 ∷ ss.0, (same_first s.1.0 ss.1.0, both (is_formed_stm s.0) (every (map is_formed_stm ss.0)) s.1.1 ss.1.1))

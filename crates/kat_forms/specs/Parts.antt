@@ -1,130 +1,57 @@
 -- What the parts of a list that fits are, sort by sort.
-use Rattle.std.specs.Prelude.{◌≡◌, ◌<◌, ◌≤◌, ◌^◌, Bool, true, false}
+use Rattle.std.specs.Prelude.{◌≡◌, ◌<◌, ◌≤◌, ℕ, true, List, [], ◌∷◌, length}
+use Rattle.std.specs.List.{AllByRecursion}
 use Rattle.kat_tree.specs.declared.tree.Tree.{Tree}
+use Rattle.kat_tree.specs.declared.tree.Tree.TheVariants as variant
 use Rattle.kat_tree.specs.Lexeme.{nesting}
 use Rattle.kat_tree.specs.Preorder.{count_of}
 use Rattle.kat_tree.specs.Written.{IsWritable}
-use Rattle.kat_forms.specs.declared.sort.Sort.{Sort}
-use Rattle.kat_value.specs.declared.op.Op.{Op}
-use Rattle.kat_value.specs.declared.op.Op.TheVariants as op
-use Rattle.kat_forms.specs.declared.heads.DeclHead.{DeclHead}
-use Rattle.kat_forms.specs.declared.heads.DeclHead.TheVariants as decl
-use Rattle.kat_forms.specs.declared.heads.ExprHead.{ExprHead}
-use Rattle.kat_forms.specs.declared.heads.ExprHead.TheVariants as head
-use Rattle.kat_forms.specs.declared.heads.StmHead.{StmHead}
-use Rattle.kat_forms.specs.declared.heads.StmHead.TheVariants as stm
-use Rattle.kat_forms.specs.declared.heads.AssertionHead.{AssertionHead}
-use Rattle.kat_forms.specs.declared.heads.AssertionHead.TheVariants as assertion
-use Rattle.kat_forms.specs.Fits.{fits}
+use Rattle.kat_ast.specs.Limits.{deepest_decl, decl_trees_bound}
+use Rattle.kat_ast.specs.Parts.{word, form}
+use Rattle.kat_shapes.specs.declared.sort.Sort.{Sort}
+use Rattle.kat_shapes.specs.Fits.{fits}
 
 -- a tree can be read as this
-abbrev pub Fits : Sort → Tree → Type 0
-Fits sort tree = fits sort tree ≡ true
+abbrev pub FitsSort : Sort → Tree → Type 0
+FitsSort sort tree = fits sort tree ≡ true
 
--- whether a form has names and numbers alone
-abbrev pub is_flat : ExprHead → Bool
-is_flat head.Bits = true
-is_flat head.Of = true
-is_flat head.Register = true
-is_flat head.Kept = true
-is_flat head.KeptCell = true
-is_flat head.Before = true
-is_flat head.After = true
-is_flat head.BeforeCell = true
-is_flat head.AfterCell = true
-is_flat _ = false
+-- as many trees as sorts, each of its sort
+abbrev pub AllFit : List Sort → List Tree → Type 0
+AllFit [] [] = Unit {0}
+AllFit (sort ∷ sorts) (tree ∷ trees) = FitsSort sort tree × AllFit sorts trees
+AllFit _ _ = ⊥
 
--- whether a form has numbers alone
-abbrev pub has_numbers : ExprHead → Bool
-has_numbers head.Bits = true
-has_numbers head.KeptCell = true
-has_numbers head.BeforeCell = true
-has_numbers head.AfterCell = true
-has_numbers _ = false
+-- parts of these sorts, one each
+pub record HasParts (sorts : List Sort) (parts : List Tree) : Type 0 where
+  pub count : length parts ≡ length sorts
+  pub fit : AllFit sorts parts
 
--- whether an operation is written with its arguments alone
-abbrev pub is_bare : Op → Bool
-is_bare (op.Slice hi lo) = false
-is_bare (op.Zext width) = false
-is_bare (op.Sext width) = false
-is_bare (op.Get of field) = false
-is_bare _ = true
+-- parts that begin with a word
+pub record IsHeaded (parts : List Tree) : Type 0 where
+  pub head : List ℕ
+  pub behind : List Tree
+  pub is : parts ≡ word head ∷ behind
 
--- whether a form is one that a word begins: an operation with numbers has a form of its own
-abbrev pub is_listed : ExprHead → Bool
-is_listed (head.Plain op) = is_bare op
-is_listed _ = true
+-- a list that begins with a word
+pub record IsHeadedList (tree : Tree) : Type 0 where
+  pub head : List ℕ
+  pub behind : List Tree
+  pub is : tree ≡ form head behind
 
--- whether a form is an operation
-abbrev pub is_operation : ExprHead → Bool
-is_operation head.Slice = true
-is_operation head.Zext = true
-is_operation head.Sext = true
-is_operation (head.Plain op) = is_bare op
-is_operation _ = false
+-- a list of a word and one part
+pub record IsHolder (tree : Tree) : Type 0 where
+  pub head : List ℕ
+  pub part : Tree
+  pub is : tree ≡ form head (part ∷ [])
 
--- whether a form of a statement names something and has any number of expressions
-abbrev pub is_naming : StmHead → Bool
-is_naming stm.Call = true
-is_naming stm.Open = true
-is_naming stm.Close = true
-is_naming stm.Lemma = true
-is_naming _ = false
-
--- whether a form of a statement has names and a set number of expressions alone
-abbrev pub is_plain_stm : StmHead → Bool
-is_plain_stm stm.Ret = true
-is_plain_stm stm.Read = true
-is_plain_stm stm.Write = true
-is_plain_stm stm.Load = true
-is_plain_stm stm.Store = true
-is_plain_stm stm.Check = true
-is_plain_stm stm.Fail = true
-is_plain_stm _ = false
-
--- whether a form declares a type
-abbrev pub is_type_decl : DeclHead → Bool
-is_type_decl decl.Enum = true
-is_type_decl decl.Union = true
-is_type_decl decl.Record = true
-is_type_decl _ = false
-
--- whether a form declares places or what they hold
-abbrev pub is_place_decl : DeclHead → Bool
-is_place_decl decl.Register = true
-is_place_decl decl.Memory = true
-is_place_decl decl.Cells = true
-is_place_decl decl.Code = true
-is_place_decl _ = false
-
--- whether a form declares something with parameters and a body
-abbrev pub is_body_decl : DeclHead → Bool
-is_body_decl decl.Region = true
-is_body_decl decl.Predicate = true
-is_body_decl decl.Fun = true
-is_body_decl _ = false
-
--- whether a form declares what cycles are
-abbrev pub is_phase_decl : DeclHead → Bool
-is_phase_decl decl.Step = true
-is_phase_decl decl.Dispatch = true
-is_phase_decl decl.Untrusted = true
-is_phase_decl decl.Block = true
-is_phase_decl decl.Boot = true
-is_phase_decl _ = false
-
--- a tree that stands directly in the root of a text: it can be written, nests at most 63 brackets and has fewer than
--- 2^32 trees
+-- a tree that stands directly in the root of a text: it can be written, and it nests no deeper and has no more trees than a
+-- declaration may
 pub record IsPartOfText (tree : Tree) : Type 0 where
   pub writable : IsWritable tree
-  pub nesting : nesting tree ≤ 63
-  pub small : count_of tree < 2 ^ 32
+  pub nesting : nesting tree ≤ deepest_decl
+  pub small : count_of tree < decl_trees_bound
 
--- whether a form of an assertion has no assertions as parts
-abbrev pub is_flat_assertion : AssertionHead → Bool
-is_flat_assertion assertion.Pure = true
-is_flat_assertion assertion.Register = true
-is_flat_assertion assertion.Cell = true
-is_flat_assertion assertion.Predicate = true
-is_flat_assertion assertion.Region = true
-is_flat_assertion _ = false
+-- the tree of a text: it can be written, and each tree directly in its root has no more trees than a declaration may
+pub record IsText (tree : Tree) : Type 0 where
+  pub writable : IsWritable tree
+  pub small : (parts : List Tree) → tree ≡ variant.List parts → AllByRecursion (λ (part : Tree). count_of part < decl_trees_bound) parts

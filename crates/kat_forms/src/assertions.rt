@@ -1,163 +1,135 @@
-// Assertions.
+//! Assertions.
 
-ghost use Rattle.std.specs.Prelude.{◌≡◌, true, Some, IfOk, length, map};
+ghost use Rattle.std.specs.Prelude.{◌≡◌, ◌-◌, [], ◌∷◌, IfOk, length, replicate, codes};
 ghost use Rattle.std.specs.List.{AllByRecursion};
-ghost use Rattle.kat_tree.specs.declared.tree.Tree.TheVariants as variant;
-ghost use Rattle.kat_ast.specs.Parts.{every};
-ghost use Rattle.kat_ast.specs.Assertions.{is_formed_assertion, tree_of_assertion};
-ghost use Rattle.kat_forms.specs.Heads.{word_of_assertion};
-ghost use Rattle.kat_forms.specs.Shapes.{shape_of_assertion, sorts_of};
-ghost use Rattle.kat_forms.specs.Fits.{judged, first_word, sorts_for, list_fits};
-ghost use Rattle.kat_forms.specs.Parts.{Fits, is_flat_assertion};
+ghost use Rattle.kat_ast.specs.Parts.{form};
+ghost use Rattle.kat_forms.specs.Parts.{FitsSort, HasParts};
+ghost use Rattle.kat_forms.specs.Forms.{IsAssertion, AreAssertions};
 
-use crate::atoms::name_in;
-use crate::expressions::{expr_in, exprs_in};
-use crate::fits::first_word;
-use crate::heads::{AssertionHead, assertion_head};
+use crate::atoms::split;
+use crate::expressions::{expr_in, name_and_expr, name_and_exprs, only_expr, two_exprs};
 use crate::params::param_in;
-use crate::sort::Sort;
 use kat_ast::{Assertion, Param};
+use kat_shapes::Sort;
 use kat_tree::Tree;
 use sqlite_items::{Boxed, Items};
 use std::alloc::{AllocError, Global};
 
-// The form that these parts begin.
-fn head_of(parts: &[Tree]) -> AssertionHead
-    requires { list_fits (sorts_for Sort.Assertion (map judged parts.now)) (map judged parts.now) ≡ true }
-    ensures word { first_word (map judged parts.now) ≡ Some (word_of_assertion result) }
-    ensures fit { list_fits (sorts_of (shape_of_assertion result) (length parts.now)) (map judged parts.now) ≡ true }
-{
-    let Some(word) = first_word(parts) else {
-        unreachable!();
-    };
-    let Some(head) = assertion_head(word) else {
-        unreachable!();
-    };
-    head
-}
-
-// Whether a form has no assertions as parts.
-fn is_flat(head: AssertionHead) -> bool
-    ensures { result ≡ is_flat_assertion head }
-{
-    matches!(
-        head,
-        AssertionHead::Pure
-            | AssertionHead::Register
-            | AssertionHead::Cell
-            | AssertionHead::Predicate
-            | AssertionHead::Region
-    )
-}
-
-// An assertion that has no assertions as parts.
-fn flat_assertion_in(
-    head: AssertionHead,
-    parts: &[Tree],
-    alloc: Global,
-) -> Result<Assertion, AllocError>
-    requires flat { is_flat_assertion head ≡ true }
-    requires word { first_word (map judged parts.now) ≡ Some (word_of_assertion head) }
-    requires fit { list_fits (sorts_of (shape_of_assertion head) (length parts.now)) (map judged parts.now) ≡ true }
-    ensures { IfOk result (λ a. (tree_of_assertion a ≡ variant.List parts.now) × (is_formed_assertion a ≡ true)) }
-{
-    match head {
-        AssertionHead::Pure => {
-            let [_, fact] = parts else { unreachable!() };
-            Ok(Assertion::Pure(expr_in(fact, alloc)?))
-        }
-        AssertionHead::Register => {
-            let [_, register, held] = parts else {
-                unreachable!()
-            };
-            Ok(Assertion::Register {
-                register: name_in(register)?,
-                value: expr_in(held, alloc)?,
-            })
-        }
-        AssertionHead::Cell => {
-            let [_, index, stored] = parts else {
-                unreachable!()
-            };
-            Ok(Assertion::Cell {
-                index: expr_in(index, alloc)?,
-                value: expr_in(stored, alloc)?,
-            })
-        }
-        AssertionHead::Predicate => {
-            let [_, predicate, args @ ..] = parts else {
-                unreachable!()
-            };
-            Ok(Assertion::Predicate {
-                predicate: name_in(predicate)?,
-                args: exprs_in(args, alloc)?,
-            })
-        }
-        AssertionHead::Region => {
-            let [_, region, terms @ ..] = parts else {
-                unreachable!()
-            };
-            Ok(Assertion::Region {
-                region: name_in(region)?,
-                args: exprs_in(terms, alloc)?,
-            })
-        }
-        _ => unreachable!(),
-    }
-}
-
 /// The assertion that a tree is.
 #[cycle(assertions)]
-pub(crate) fn assertion_in(tree: &Tree, alloc: Global) -> Result<Assertion, AllocError>
-    requires { Fits Sort.Assertion tree.now }
-    ensures { IfOk result (λ a. (tree_of_assertion a ≡ tree.now) × (is_formed_assertion a ≡ true)) }
+pub(crate) fn assertion_in(alloc: Global, tree: &Tree) -> Result<Assertion, AllocError>
+    requires { FitsSort Sort.Assertion tree.now }
+    ensures { IfOk result (λ a. IsAssertion tree.now a) }
 {
     let Tree::List(parts) = tree else {
         unreachable!();
     };
-    let parts = parts.as_slice();
-    let head = head_of(parts);
-    if is_flat(head) {
-        return flat_assertion_in(head, parts, alloc);
-    }
-    match head {
-        AssertionHead::Star => {
-            let [_, held @ ..] = parts else {
-                unreachable!()
-            };
-            Ok(Assertion::Star(assertions_in(held, alloc)?))
-        }
-        AssertionHead::If => {
-            let [_, test, yes, no] = parts else {
-                unreachable!()
-            };
-            Ok(Assertion::If {
-                test: expr_in(test, alloc)?,
-                then: Boxed::new(alloc, assertion_in(yes, alloc)?)?,
-                otherwise: Boxed::new(alloc, assertion_in(no, alloc)?)?,
-            })
-        }
-        AssertionHead::Exists => {
-            let [_, bound, body] = parts else {
-                unreachable!()
-            };
-            let Param { name, ty } = param_in(bound)?;
-            let body = Boxed::new(alloc, assertion_in(body, alloc)?)?;
-            Ok(Assertion::Exists { name, ty, body })
-        }
+    let (word, parts) = split(parts.as_slice());
+    match word {
+        "pure" => pure_in(alloc, parts),
+        "reg" => register_in(alloc, parts),
+        "cell" => cell_in(alloc, parts),
+        "star" => star_in(alloc, parts),
+        "if" => if_in(alloc, parts),
+        "exists" => exists_in(alloc, parts),
+        "pred" => predicate_in(alloc, parts),
+        "region" => region_in(alloc, parts),
         _ => unreachable!(),
     }
 }
 
-// The assertions that trees are.
+/// The assertions that trees are.
 #[cycle(assertions)]
-fn assertions_in(trees: &[Tree], alloc: Global) -> Result<Items<Assertion>, AllocError>
-    requires { AllByRecursion (Fits Sort.Assertion) trees.now }
-    ensures { IfOk result (λ xs. (map tree_of_assertion xs ≡ trees.now) × (every (map is_formed_assertion xs) ≡ true)) }
+fn assertions_in(alloc: Global, trees: &[Tree]) -> Result<Items<Assertion>, AllocError>
+    requires { AllByRecursion (FitsSort Sort.Assertion) trees.now }
+    ensures { IfOk result (λ xs. AreAssertions trees.now xs) }
 {
     let mut all = Items::new(alloc);
     for tree in trees {
-        all.push(assertion_in(tree, alloc)?)?;
+        all.push(assertion_in(alloc, tree)?)?;
     }
     Ok(all)
+}
+
+/// `(pure E)`
+fn pure_in(alloc: Global, parts: &[Tree]) -> Result<Assertion, AllocError>
+    requires { HasParts (Sort.Expression ∷ []) parts.now }
+    ensures { IfOk result (λ a. IsAssertion (form (codes "pure") parts.now) a) }
+{
+    Ok(Assertion::Pure(only_expr(alloc, parts)?))
+}
+
+/// `(reg r E)`
+fn register_in(alloc: Global, parts: &[Tree]) -> Result<Assertion, AllocError>
+    requires { HasParts (Sort.Name ∷ Sort.Expression ∷ []) parts.now }
+    ensures { IfOk result (λ a. IsAssertion (form (codes "reg") parts.now) a) }
+{
+    let (register, value) = name_and_expr(alloc, parts)?;
+    Ok(Assertion::Register { register, value })
+}
+
+/// `(cell E E)`
+fn cell_in(alloc: Global, parts: &[Tree]) -> Result<Assertion, AllocError>
+    requires { HasParts (Sort.Expression ∷ Sort.Expression ∷ []) parts.now }
+    ensures { IfOk result (λ a. IsAssertion (form (codes "cell") parts.now) a) }
+{
+    let (index, value) = two_exprs(alloc, parts)?;
+    Ok(Assertion::Cell { index, value })
+}
+
+/// `(star A ..)`
+#[cycle(assertions)]
+fn star_in(alloc: Global, parts: &[Tree]) -> Result<Assertion, AllocError>
+    requires { HasParts (replicate (length parts.now) Sort.Assertion) parts.now }
+    ensures { IfOk result (λ a. IsAssertion (form (codes "star") parts.now) a) }
+{
+    Ok(Assertion::Star(assertions_in(alloc, parts)?))
+}
+
+/// `(if E A A)`
+#[cycle(assertions)]
+fn if_in(alloc: Global, parts: &[Tree]) -> Result<Assertion, AllocError>
+    requires { HasParts (Sort.Expression ∷ Sort.Assertion ∷ Sort.Assertion ∷ []) parts.now }
+    ensures { IfOk result (λ a. IsAssertion (form (codes "if") parts.now) a) }
+{
+    let [test, then, otherwise] = parts else {
+        unreachable!();
+    };
+    Ok(Assertion::If {
+        test: expr_in(alloc, test)?,
+        then: Boxed::new(alloc, assertion_in(alloc, then)?)?,
+        otherwise: Boxed::new(alloc, assertion_in(alloc, otherwise)?)?,
+    })
+}
+
+/// `(exists (x T) A)`
+#[cycle(assertions)]
+fn exists_in(alloc: Global, parts: &[Tree]) -> Result<Assertion, AllocError>
+    requires { HasParts (Sort.Param ∷ Sort.Assertion ∷ []) parts.now }
+    ensures { IfOk result (λ a. IsAssertion (form (codes "exists") parts.now) a) }
+{
+    let [bound, body] = parts else {
+        unreachable!();
+    };
+    let Param { name, ty } = param_in(bound)?;
+    let body = Boxed::new(alloc, assertion_in(alloc, body)?)?;
+    Ok(Assertion::Exists { name, ty, body })
+}
+
+/// `(pred P E ..)`
+fn predicate_in(alloc: Global, parts: &[Tree]) -> Result<Assertion, AllocError>
+    requires { HasParts (Sort.Name ∷ replicate (length parts.now - 1) Sort.Expression) parts.now }
+    ensures { IfOk result (λ a. IsAssertion (form (codes "pred") parts.now) a) }
+{
+    let (predicate, args) = name_and_exprs(alloc, parts)?;
+    Ok(Assertion::Predicate { predicate, args })
+}
+
+/// `(region G E ..)`
+fn region_in(alloc: Global, parts: &[Tree]) -> Result<Assertion, AllocError>
+    requires { HasParts (Sort.Name ∷ replicate (length parts.now - 1) Sort.Expression) parts.now }
+    ensures { IfOk result (λ a. IsAssertion (form (codes "region") parts.now) a) }
+{
+    let (region, args) = name_and_exprs(alloc, parts)?;
+    Ok(Assertion::Region { region, args })
 }

@@ -1,20 +1,20 @@
-// Names, numbers and types.
+//! Names, numbers and types, and the word with which a list begins.
 
-ghost use Rattle.std.specs.Prelude.{◌≡◌, true, IfOk};
-ghost use Rattle.kat_ast.specs.Parts.{is_name, word, number};
-ghost use Rattle.kat_ast.specs.Types.{is_formed_type, tree_of_type};
-ghost use Rattle.kat_forms.specs.Parts.{Fits};
+ghost use Rattle.std.specs.Prelude.{◌≡◌, true, ℕ, [], ◌∷◌, List, IfOk};
+ghost use Rattle.kat_ast.specs.Parts.{is_name, word, number, form};
+ghost use Rattle.kat_forms.specs.Parts.{FitsSort, HasParts, IsHeaded, IsHeadedList, IsHolder};
+ghost use Rattle.kat_forms.specs.Forms.{IsName, IsType};
 
-use crate::sort::Sort;
 use kat_ast::TypeName;
+use kat_shapes::Sort;
 use kat_text::Text;
 use kat_tree::{Token, Tree};
-use std::alloc::{AllocError, Global};
+use std::alloc::AllocError;
 
 /// The name that a tree is.
 pub(crate) fn name_in(tree: &Tree) -> Result<Text, AllocError>
-    requires { Fits Sort.Name tree.now }
-    ensures { IfOk result (λ x. (word x ≡ tree.now) × (is_name x ≡ true)) }
+    requires { FitsSort Sort.Name tree.now }
+    ensures { IfOk result (λ x. IsName tree.now x) }
 {
     let Tree::Atom(Token::Name(name)) = tree else {
         unreachable!();
@@ -24,7 +24,7 @@ pub(crate) fn name_in(tree: &Tree) -> Result<Text, AllocError>
 
 /// The number that a tree is.
 pub(crate) fn number_in(tree: &Tree) -> u64
-    requires { Fits Sort.Number tree.now }
+    requires { FitsSort Sort.Number tree.now }
     ensures { number result ≡ tree.now }
 {
     let Tree::Atom(Token::Number(number)) = tree else {
@@ -35,8 +35,8 @@ pub(crate) fn number_in(tree: &Tree) -> u64
 
 /// The type that a tree is.
 pub(crate) fn type_in(tree: &Tree) -> Result<TypeName, AllocError>
-    requires { Fits Sort.TypeName tree.now }
-    ensures { IfOk result (λ t. (tree_of_type t ≡ tree.now) × (is_formed_type t ≡ true)) }
+    requires { FitsSort Sort.TypeName tree.now }
+    ensures { IfOk result (λ t. IsType tree.now t) }
 {
     match tree {
         Tree::Atom(Token::Name(name)) => match name.as_str() {
@@ -44,12 +44,71 @@ pub(crate) fn type_in(tree: &Tree) -> Result<TypeName, AllocError>
             "bool" => Ok(TypeName::Bool),
             _ => Ok(TypeName::Named(name.copy()?)),
         },
-        Tree::List(parts) => {
-            let [_, width] = parts.as_slice() else {
-                unreachable!();
-            };
-            Ok(TypeName::Bits(number_in(width)))
-        }
+        Tree::List(_) => Ok(TypeName::Bits(number_in(part_of(tree)))),
         _ => unreachable!(),
     }
+}
+
+/// The word with which a list begins, and the parts behind it.
+pub(crate) fn split(parts: &[Tree]) -> (&str, &[Tree])
+    requires { IsHeaded parts.now }
+    ensures { word result.0.now ∷ result.1.now ≡ parts.now }
+{
+    let [head, behind @ ..] = parts else {
+        unreachable!();
+    };
+    let Tree::Atom(Token::Name(word)) = head else {
+        unreachable!();
+    };
+    (word.as_str(), behind)
+}
+
+/// The parts of a list behind its word.
+pub(crate) fn parts_of(tree: &Tree) -> &[Tree]
+    requires { IsHeadedList tree.now }
+    ensures { (head : List ℕ) × (tree.now ≡ form head result.now) }
+{
+    let Tree::List(parts) = tree else {
+        unreachable!();
+    };
+    let [_, behind @ ..] = parts.as_slice() else {
+        unreachable!();
+    };
+    behind
+}
+
+/// The one part of a list behind its word.
+pub(crate) fn part_of(tree: &Tree) -> &Tree
+    requires { IsHolder tree.now }
+    ensures { (head : List ℕ) × (tree.now ≡ form head (result.now ∷ [])) }
+{
+    let Tree::List(parts) = tree else {
+        unreachable!();
+    };
+    let [_, part] = parts.as_slice() else {
+        unreachable!();
+    };
+    part
+}
+
+/// One name alone.
+pub(crate) fn only_name(parts: &[Tree]) -> Result<Text, AllocError>
+    requires { HasParts (Sort.Name ∷ []) parts.now }
+    ensures { IfOk result (λ x. (word x ∷ [] ≡ parts.now) × (is_name x ≡ true)) }
+{
+    let [name] = parts else {
+        unreachable!();
+    };
+    name_in(name)
+}
+
+/// One number alone.
+pub(crate) fn only_number(parts: &[Tree]) -> u64
+    requires { HasParts (Sort.Number ∷ []) parts.now }
+    ensures { number result ∷ [] ≡ parts.now }
+{
+    let [number] = parts else {
+        unreachable!();
+    };
+    number_in(number)
 }

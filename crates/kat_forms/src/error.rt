@@ -1,15 +1,15 @@
-// Why a tree is no specification.
+//! Why a tree is no specification, or no declaration.
 
 ghost use Rattle.std.specs.Prelude.{◌≡◌};
 ghost use Rattle.kat_forms.specs.declared.error.FormError.TheVariants.{Memory};
 
-use kat_ast::Wanted;
+use kat_shapes::Wanted;
 use std::alloc::{AllocError, AllocFailed};
 
-/// Why a tree was not read as a specification.
+/// Why a tree was not read.
 #[derive(Clone, Copy, Debug, PartialEq, Eq, Drop)]
 pub enum FormError {
-    /// The first tree, in preorder, that fits no form.
+    /// The first tree, in preorder, that has no form where it stands.
     Wanted {
         /// Its number, from 0 on.
         place: u64,

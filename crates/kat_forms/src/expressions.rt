@@ -1,45 +1,52 @@
-// Expressions.
+//! Expressions.
 
-ghost use Rattle.std.specs.Prelude.{◌≡◌, ◌++◌, true, false, Some, IfOk, length, map};
+ghost use Rattle.std.specs.Prelude.{◌≡◌, ◌-◌, true, None, [], ◌∷◌, IfOk, length, map, replicate, take, codes};
 ghost use Rattle.std.specs.List.{AllByRecursion};
 ghost use Rattle.kat_tree.specs.declared.tree.Tree.TheVariants as variant;
-ghost use Rattle.kat_value.specs.Words.{is_written, arity_of, word_of_op};
-ghost use Rattle.kat_ast.specs.Parts.{word, form};
-ghost use Rattle.kat_ast.specs.Expressions.{is_formed_expr, are_formed_exprs, numbers_before, tree_of_expr};
-ghost use Rattle.kat_forms.specs.Heads.{word_of_expr};
-ghost use Rattle.kat_forms.specs.Shapes.{shape_of_expr, sorts_of};
-ghost use Rattle.kat_forms.specs.Fits.{judged, first_word, sorts_for, list_fits};
-ghost use Rattle.kat_forms.specs.Parts.{Fits, has_numbers, is_flat, is_listed, is_operation};
+ghost use Rattle.kat_ast.specs.Parts.{is_name, word, form};
+ghost use Rattle.kat_ast.specs.Expressions.{is_formed_expr, are_formed_exprs, tree_of_expr};
+ghost use Rattle.kat_shapes.specs.Forms.{expressions, row_of};
+ghost use Rattle.kat_forms.specs.Parts.{FitsSort, HasParts};
+ghost use Rattle.kat_forms.specs.Forms.{IsExpr, AreExprs};
 
-use crate::atoms::{name_in, number_in};
-use crate::fits::first_word;
-use crate::heads::{ExprHead, expr_head};
-use crate::sort::Sort;
+use crate::atoms::{name_in, number_in, only_name, only_number, split};
 use kat_ast::{Expr, Op};
+use kat_shapes::Sort;
 use kat_text::Text;
 use kat_tree::{Token, Tree};
+use kat_value::op_of_word;
 use sqlite_items::{Boxed, Items};
 use std::alloc::{AllocError, Global};
 
-// The form that these parts begin.
-fn head_of(parts: &[Tree]) -> ExprHead
-    requires { list_fits (sorts_for Sort.Expression (map judged parts.now)) (map judged parts.now) ≡ true }
-    ensures listed { is_listed result ≡ true }
-    ensures word { first_word (map judged parts.now) ≡ Some (word_of_expr result) }
-    ensures fit { list_fits (sorts_of (shape_of_expr result) (length parts.now)) (map judged parts.now) ≡ true }
+/// The expression that a tree is.
+#[cycle(expressions)]
+pub(crate) fn expr_in(alloc: Global, tree: &Tree) -> Result<Expr, AllocError>
+    requires { FitsSort Sort.Expression tree.now }
+    ensures { IfOk result (λ e. IsExpr tree.now e) }
 {
-    let Some(word) = first_word(parts) else {
-        unreachable!();
-    };
-    let Some(head) = expr_head(word) else {
-        unreachable!();
-    };
-    head
+    match tree {
+        Tree::Atom(Token::Name(name)) => named_expr(name),
+        Tree::List(parts) => list_in(alloc, parts.as_slice()),
+        _ => unreachable!(),
+    }
 }
 
-// The expression that a name is.
-fn expr_of_name(name: &Text) -> Result<Expr, AllocError>
-    ensures { IfOk result (λ e. (tree_of_expr e ≡ word name.now) × (is_formed_expr e ≡ true)) }
+/// The expressions that trees are.
+#[cycle(expressions)]
+pub(crate) fn exprs_in(alloc: Global, trees: &[Tree]) -> Result<Items<Expr>, AllocError>
+    requires { AllByRecursion (FitsSort Sort.Expression) trees.now }
+    ensures { IfOk result (λ es. AreExprs trees.now es) }
+{
+    let mut exprs = Items::new(alloc);
+    for tree in trees {
+        exprs.push(expr_in(alloc, tree)?)?;
+    }
+    Ok(exprs)
+}
+
+/// The expression that a name is.
+fn named_expr(name: &Text) -> Result<Expr, AllocError>
+    ensures { IfOk result (λ e. IsExpr (word name.now) e) }
 {
     match name.as_str() {
         "unit" => Ok(Expr::Unit),
@@ -49,216 +56,266 @@ fn expr_of_name(name: &Text) -> Result<Expr, AllocError>
     }
 }
 
-// Whether a form has names and numbers alone.
-fn is_flat(head: ExprHead) -> bool
-    ensures { result ≡ is_flat head }
-{
-    matches!(
-        head,
-        ExprHead::Bits
-            | ExprHead::Of
-            | ExprHead::Register
-            | ExprHead::Kept
-            | ExprHead::KeptCell
-            | ExprHead::Before
-            | ExprHead::After
-            | ExprHead::BeforeCell
-            | ExprHead::AfterCell
-    )
-}
-
-// An expression of numbers alone.
-fn number_expr_in(head: ExprHead, parts: &[Tree]) -> Expr
-    requires numbers { has_numbers head ≡ true }
-    requires word { first_word (map judged parts.now) ≡ Some (word_of_expr head) }
-    requires fit { list_fits (sorts_of (shape_of_expr head) (length parts.now)) (map judged parts.now) ≡ true }
-    ensures tree { tree_of_expr result ≡ variant.List parts.now }
-    ensures formed { is_formed_expr result ≡ true }
-{
-    match head {
-        ExprHead::Bits => {
-            let [_, width, number] = parts else {
-                unreachable!()
-            };
-            Expr::Bits {
-                width: number_in(width),
-                number: number_in(number),
-            }
-        }
-        ExprHead::KeptCell => {
-            let [_, kept_cell] = parts else {
-                unreachable!()
-            };
-            Expr::KeptCell(number_in(kept_cell))
-        }
-        ExprHead::BeforeCell => {
-            let [_, before_cell] = parts else {
-                unreachable!()
-            };
-            Expr::BeforeCell(number_in(before_cell))
-        }
-        ExprHead::AfterCell => {
-            let [_, after_cell] = parts else {
-                unreachable!()
-            };
-            Expr::AfterCell(number_in(after_cell))
-        }
-        _ => unreachable!(),
-    }
-}
-
-// An expression of names and numbers alone.
-fn flat_expr_in(head: ExprHead, parts: &[Tree]) -> Result<Expr, AllocError>
-    requires flat { is_flat head ≡ true }
-    requires word { first_word (map judged parts.now) ≡ Some (word_of_expr head) }
-    requires fit { list_fits (sorts_of (shape_of_expr head) (length parts.now)) (map judged parts.now) ≡ true }
-    ensures { IfOk result (λ e. (tree_of_expr e ≡ variant.List parts.now) × (is_formed_expr e ≡ true)) }
-{
-    match head {
-        ExprHead::Of => {
-            let [_, of, member] = parts else {
-                unreachable!()
-            };
-            Ok(Expr::Of {
-                of: name_in(of)?,
-                member: name_in(member)?,
-            })
-        }
-        ExprHead::Register => {
-            let [_, register] = parts else { unreachable!() };
-            Ok(Expr::Register(name_in(register)?))
-        }
-        ExprHead::Kept => {
-            let [_, kept] = parts else { unreachable!() };
-            Ok(Expr::Kept(name_in(kept)?))
-        }
-        ExprHead::Before => {
-            let [_, before] = parts else { unreachable!() };
-            Ok(Expr::Before(name_in(before)?))
-        }
-        ExprHead::After => {
-            let [_, after] = parts else { unreachable!() };
-            Ok(Expr::After(name_in(after)?))
-        }
-        _ => Ok(number_expr_in(head, parts)),
-    }
-}
-
-// The operation that a form is, with the trees of its arguments.
-fn operation_in(head: ExprHead, parts: &[Tree]) -> (Op, &[Tree])
-    requires nested { is_operation head ≡ true }
-    requires word { first_word (map judged parts.now) ≡ Some (word_of_expr head) }
-    requires fit { list_fits (sorts_of (shape_of_expr head) (length parts.now)) (map judged parts.now) ≡ true }
-    ensures written { is_written result.0 ≡ true }
-    ensures tree { variant.List parts.now ≡ form (word_of_op result.0) (numbers_before result.0 ++ result.1.now) }
-    ensures count { length result.1.now ≡ arity_of result.0 }
-    ensures fit { AllByRecursion (Fits Sort.Expression) result.1.now }
-{
-    match head {
-        ExprHead::Slice => {
-            let [_, hi, lo, args @ ..] = parts else {
-                unreachable!()
-            };
-            let op = Op::Slice {
-                hi: number_in(hi),
-                lo: number_in(lo),
-            };
-            (op, args)
-        }
-        ExprHead::Zext => {
-            let [_, width, args @ ..] = parts else {
-                unreachable!()
-            };
-            let width = number_in(width);
-            (Op::Zext { width }, args)
-        }
-        ExprHead::Sext => {
-            let [_, width, args @ ..] = parts else {
-                unreachable!()
-            };
-            let width = number_in(width);
-            (Op::Sext { width }, args)
-        }
-        ExprHead::Plain(op) => {
-            let [_, args @ ..] = parts else {
-                unreachable!()
-            };
-            (op, args)
-        }
-        _ => unreachable!(),
-    }
-}
-
-// An expression with expressions in it.
+/// The expression that a list of these parts is.
 #[cycle(expressions)]
-fn nested_expr_in(head: ExprHead, parts: &[Tree], alloc: Global) -> Result<Expr, AllocError>
-    requires nested { (is_flat head ≡ false) × (is_listed head ≡ true) }
-    requires word { first_word (map judged parts.now) ≡ Some (word_of_expr head) }
-    requires fit { list_fits (sorts_of (shape_of_expr head) (length parts.now)) (map judged parts.now) ≡ true }
-    ensures { IfOk result (λ e. (tree_of_expr e ≡ variant.List parts.now) × (is_formed_expr e ≡ true)) }
+fn list_in(alloc: Global, parts: &[Tree]) -> Result<Expr, AllocError>
+    requires { FitsSort Sort.Expression (variant.List parts.now) }
+    ensures { IfOk result (λ e. IsExpr (variant.List parts.now) e) }
 {
-    match head {
-        ExprHead::Make => {
-            let [_, ctor, payload] = parts else {
-                unreachable!()
-            };
-            let ctor = name_in(ctor)?;
-            let payload = Boxed::new(alloc, expr_in(payload, alloc)?)?;
-            Ok(Expr::Make { ctor, payload })
-        }
-        ExprHead::Get => {
-            let [_, of, field, value] = parts else {
-                unreachable!()
-            };
-            let of = name_in(of)?;
-            let field = name_in(field)?;
-            let value = Boxed::new(alloc, expr_in(value, alloc)?)?;
-            Ok(Expr::Get { of, field, value })
-        }
-        ExprHead::Rec => {
-            let [_, record, fields @ ..] = parts else {
-                unreachable!()
-            };
-            let of = name_in(record)?;
-            let fields = exprs_in(fields, alloc)?;
-            Ok(Expr::Rec { of, fields })
-        }
-        _ => {
-            let (op, args) = operation_in(head, parts);
-            let args = exprs_in(args, alloc)?;
-            Ok(Expr::Apply { op, args })
-        }
+    let (word, parts) = split(parts);
+    match word {
+        "bits" => Ok(bits_in(parts)),
+        "of" => of_in(parts),
+        "make" => make_in(alloc, parts),
+        "rec" => rec_in(alloc, parts),
+        "reg" => register_in(parts),
+        "kept" => kept_in(parts),
+        "kept_cell" => Ok(kept_cell_in(parts)),
+        "before" => before_in(parts),
+        "after" => after_in(parts),
+        "before_cell" => Ok(before_cell_in(parts)),
+        "after_cell" => Ok(after_cell_in(parts)),
+        "get" => get_in(alloc, parts),
+        "slice" => slice_in(alloc, parts),
+        "zext" => zext_in(alloc, parts),
+        "sext" => sext_in(alloc, parts),
+        _ => operation_in(alloc, word, parts),
     }
 }
 
-/// The expression that a tree is.
-#[cycle(expressions)]
-pub(crate) fn expr_in(tree: &Tree, alloc: Global) -> Result<Expr, AllocError>
-    requires { Fits Sort.Expression tree.now }
-    ensures { IfOk result (λ e. (tree_of_expr e ≡ tree.now) × (is_formed_expr e ≡ true)) }
+/// `(bits w n)`
+fn bits_in(parts: &[Tree]) -> Expr
+    requires { HasParts (Sort.Number ∷ Sort.Number ∷ []) parts.now }
+    ensures { IsExpr (form (codes "bits") parts.now) result }
 {
-    let parts = match tree {
-        Tree::Atom(Token::Name(name)) => return expr_of_name(name),
-        Tree::List(parts) => parts.as_slice(),
-        _ => unreachable!(),
+    let [width, number] = parts else {
+        unreachable!();
     };
-    let head = head_of(parts);
-    if is_flat(head) {
-        flat_expr_in(head, parts)
-    } else {
-        nested_expr_in(head, parts, alloc)
+    Expr::Bits {
+        width: number_in(width),
+        number: number_in(number),
     }
 }
 
-/// The expressions that trees are.
-#[cycle(expressions)]
-pub(crate) fn exprs_in(trees: &[Tree], alloc: Global) -> Result<Items<Expr>, AllocError>
-    requires { AllByRecursion (Fits Sort.Expression) trees.now }
-    ensures { IfOk result (λ es. (map tree_of_expr es ≡ trees.now) × (are_formed_exprs es ≡ true)) }
+/// `(of E A)`
+fn of_in(parts: &[Tree]) -> Result<Expr, AllocError>
+    requires { HasParts (Sort.Name ∷ Sort.Name ∷ []) parts.now }
+    ensures { IfOk result (λ e. IsExpr (form (codes "of") parts.now) e) }
 {
-    let mut exprs = Items::new(alloc);
-    for tree in trees {
-        exprs.push(expr_in(tree, alloc)?)?;
-    }
-    Ok(exprs)
+    let [of, member] = parts else {
+        unreachable!();
+    };
+    Ok(Expr::Of {
+        of: name_in(of)?,
+        member: name_in(member)?,
+    })
+}
+
+/// `(make K E)`
+#[cycle(expressions)]
+fn make_in(alloc: Global, parts: &[Tree]) -> Result<Expr, AllocError>
+    requires { HasParts (Sort.Name ∷ Sort.Expression ∷ []) parts.now }
+    ensures { IfOk result (λ e. IsExpr (form (codes "make") parts.now) e) }
+{
+    let [ctor, payload] = parts else {
+        unreachable!();
+    };
+    let ctor = name_in(ctor)?;
+    let payload = Boxed::new(alloc, expr_in(alloc, payload)?)?;
+    Ok(Expr::Make { ctor, payload })
+}
+
+/// `(rec R E ..)`
+#[cycle(expressions)]
+fn rec_in(alloc: Global, parts: &[Tree]) -> Result<Expr, AllocError>
+    requires { HasParts (Sort.Name ∷ replicate (length parts.now - 1) Sort.Expression) parts.now }
+    ensures { IfOk result (λ e. IsExpr (form (codes "rec") parts.now) e) }
+{
+    let [of, fields @ ..] = parts else {
+        unreachable!();
+    };
+    let of = name_in(of)?;
+    let fields = exprs_in(alloc, fields)?;
+    Ok(Expr::Rec { of, fields })
+}
+
+/// `(reg r)`
+fn register_in(parts: &[Tree]) -> Result<Expr, AllocError>
+    requires { HasParts (Sort.Name ∷ []) parts.now }
+    ensures { IfOk result (λ e. IsExpr (form (codes "reg") parts.now) e) }
+{
+    Ok(Expr::Register(only_name(parts)?))
+}
+
+/// `(kept r)`
+fn kept_in(parts: &[Tree]) -> Result<Expr, AllocError>
+    requires { HasParts (Sort.Name ∷ []) parts.now }
+    ensures { IfOk result (λ e. IsExpr (form (codes "kept") parts.now) e) }
+{
+    Ok(Expr::Kept(only_name(parts)?))
+}
+
+/// `(before r)`
+fn before_in(parts: &[Tree]) -> Result<Expr, AllocError>
+    requires { HasParts (Sort.Name ∷ []) parts.now }
+    ensures { IfOk result (λ e. IsExpr (form (codes "before") parts.now) e) }
+{
+    Ok(Expr::Before(only_name(parts)?))
+}
+
+/// `(after r)`
+fn after_in(parts: &[Tree]) -> Result<Expr, AllocError>
+    requires { HasParts (Sort.Name ∷ []) parts.now }
+    ensures { IfOk result (λ e. IsExpr (form (codes "after") parts.now) e) }
+{
+    Ok(Expr::After(only_name(parts)?))
+}
+
+/// `(kept_cell n)`
+fn kept_cell_in(parts: &[Tree]) -> Expr
+    requires { HasParts (Sort.Number ∷ []) parts.now }
+    ensures { IsExpr (form (codes "kept_cell") parts.now) result }
+{
+    Expr::KeptCell(only_number(parts))
+}
+
+/// `(before_cell n)`
+fn before_cell_in(parts: &[Tree]) -> Expr
+    requires { HasParts (Sort.Number ∷ []) parts.now }
+    ensures { IsExpr (form (codes "before_cell") parts.now) result }
+{
+    Expr::BeforeCell(only_number(parts))
+}
+
+/// `(after_cell n)`
+fn after_cell_in(parts: &[Tree]) -> Expr
+    requires { HasParts (Sort.Number ∷ []) parts.now }
+    ensures { IsExpr (form (codes "after_cell") parts.now) result }
+{
+    Expr::AfterCell(only_number(parts))
+}
+
+/// `(get R f E)`
+#[cycle(expressions)]
+fn get_in(alloc: Global, parts: &[Tree]) -> Result<Expr, AllocError>
+    requires { HasParts (Sort.Name ∷ Sort.Name ∷ Sort.Expression ∷ []) parts.now }
+    ensures { IfOk result (λ e. IsExpr (form (codes "get") parts.now) e) }
+{
+    let [of, field, value] = parts else {
+        unreachable!();
+    };
+    let of = name_in(of)?;
+    let field = name_in(field)?;
+    let value = Boxed::new(alloc, expr_in(alloc, value)?)?;
+    Ok(Expr::Get { of, field, value })
+}
+
+/// `(slice hi lo E)`
+#[cycle(expressions)]
+fn slice_in(alloc: Global, parts: &[Tree]) -> Result<Expr, AllocError>
+    requires { HasParts (Sort.Number ∷ Sort.Number ∷ Sort.Expression ∷ []) parts.now }
+    ensures { IfOk result (λ e. IsExpr (form (codes "slice") parts.now) e) }
+{
+    let [hi, lo, args @ ..] = parts else {
+        unreachable!();
+    };
+    let op = Op::Slice {
+        hi: number_in(hi),
+        lo: number_in(lo),
+    };
+    let args = exprs_in(alloc, args)?;
+    Ok(Expr::Apply { op, args })
+}
+
+/// `(zext w E)`
+#[cycle(expressions)]
+fn zext_in(alloc: Global, parts: &[Tree]) -> Result<Expr, AllocError>
+    requires { HasParts (Sort.Number ∷ Sort.Expression ∷ []) parts.now }
+    ensures { IfOk result (λ e. IsExpr (form (codes "zext") parts.now) e) }
+{
+    let [width, args @ ..] = parts else {
+        unreachable!();
+    };
+    let op = Op::Zext {
+        width: number_in(width),
+    };
+    let args = exprs_in(alloc, args)?;
+    Ok(Expr::Apply { op, args })
+}
+
+/// `(sext w E)`
+#[cycle(expressions)]
+fn sext_in(alloc: Global, parts: &[Tree]) -> Result<Expr, AllocError>
+    requires { HasParts (Sort.Number ∷ Sort.Expression ∷ []) parts.now }
+    ensures { IfOk result (λ e. IsExpr (form (codes "sext") parts.now) e) }
+{
+    let [width, args @ ..] = parts else {
+        unreachable!();
+    };
+    let op = Op::Sext {
+        width: number_in(width),
+    };
+    let args = exprs_in(alloc, args)?;
+    Ok(Expr::Apply { op, args })
+}
+
+/// An operation that is written with its arguments alone.
+#[cycle(expressions)]
+fn operation_in(alloc: Global, word: &str, parts: &[Tree]) -> Result<Expr, AllocError>
+    requires fits { FitsSort Sort.Expression (form word.now parts.now) }
+    requires none { row_of (take 15 expressions) word.now ≡ None }
+    ensures { IfOk result (λ e. IsExpr (form word.now parts.now) e) }
+{
+    let Some(op) = op_of_word(word) else {
+        unreachable!();
+    };
+    let args = exprs_in(alloc, parts)?;
+    Ok(Expr::Apply { op, args })
+}
+
+/// One expression alone.
+pub(crate) fn only_expr(alloc: Global, parts: &[Tree]) -> Result<Expr, AllocError>
+    requires { HasParts (Sort.Expression ∷ []) parts.now }
+    ensures { IfOk result (λ e. (tree_of_expr e ∷ [] ≡ parts.now) × (is_formed_expr e ≡ true)) }
+{
+    let [value] = parts else {
+        unreachable!();
+    };
+    expr_in(alloc, value)
+}
+
+/// Two expressions.
+pub(crate) fn two_exprs(alloc: Global, parts: &[Tree]) -> Result<(Expr, Expr), AllocError>
+    requires { HasParts (Sort.Expression ∷ Sort.Expression ∷ []) parts.now }
+    ensures { IfOk result (λ r. (tree_of_expr r.0 ∷ tree_of_expr r.1 ∷ [] ≡ parts.now) × (is_formed_expr r.0 ≡ true) × (is_formed_expr r.1 ≡ true)) }
+{
+    let [first, second] = parts else {
+        unreachable!();
+    };
+    Ok((expr_in(alloc, first)?, expr_in(alloc, second)?))
+}
+
+/// A name, and an expression.
+pub(crate) fn name_and_expr(alloc: Global, parts: &[Tree]) -> Result<(Text, Expr), AllocError>
+    requires { HasParts (Sort.Name ∷ Sort.Expression ∷ []) parts.now }
+    ensures { IfOk result (λ r. (word r.0 ∷ tree_of_expr r.1 ∷ [] ≡ parts.now) × (is_name r.0 ≡ true) × (is_formed_expr r.1 ≡ true)) }
+{
+    let [name, value] = parts else {
+        unreachable!();
+    };
+    Ok((name_in(name)?, expr_in(alloc, value)?))
+}
+
+/// A name, and any number of expressions.
+pub(crate) fn name_and_exprs(
+    alloc: Global,
+    parts: &[Tree],
+) -> Result<(Text, Items<Expr>), AllocError>
+    requires { HasParts (Sort.Name ∷ replicate (length parts.now - 1) Sort.Expression) parts.now }
+    ensures { IfOk result (λ r. (word r.0 ∷ map tree_of_expr r.1 ≡ parts.now) × (is_name r.0 ≡ true) × (are_formed_exprs r.1 ≡ true)) }
+{
+    let [name, args @ ..] = parts else {
+        unreachable!();
+    };
+    Ok((name_in(name)?, exprs_in(alloc, args)?))
 }

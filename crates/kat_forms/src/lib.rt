@@ -1,4 +1,5 @@
-//! Forms: which tree is which specification.
+//! Forms: which tree is which specification. A tree is first judged, by the table of forms; what has right form is then
+//! read, form by form, with no refusal.
 #![tactic(auto)]
 
 mod assertions;
@@ -6,19 +7,12 @@ mod atoms;
 mod declarations;
 mod error;
 mod expressions;
-mod fits;
-mod heads;
-mod law;
-mod misfit;
+mod laws;
 mod params;
 mod read;
-mod shape;
-mod sort;
 mod statements;
 
 pub use error::FormError;
-pub use kat_ast::Wanted;
-pub use law::written_fits;
-pub use misfit::Misfit;
-pub use read::read_spec;
-pub use sort::Sort;
+pub use kat_shapes::{Misfit, Wanted};
+pub use laws::{one_description, written_fits};
+pub use read::{read_decl, read_spec};

@@ -1,54 +1,116 @@
-// Specifications.
+//! Specifications, and declarations by themselves.
 
-ghost use Rattle.std.specs.Prelude.{◌≡◌, ◌<◌, ◌≤◌, ◌^◌, true, false, List, map, IfOk, IfErr, MatchResult};
+ghost use Rattle.std.specs.Prelude.{◌≡◌, ◌<◌, List, map, IfOk, IfErr, MatchResult};
 ghost use Rattle.std.specs.List.{AllByRecursion};
 ghost use Rattle.kat_tree.specs.declared.tree.Tree.{Tree};
 ghost use Rattle.kat_tree.specs.declared.tree.Tree.TheVariants as variant;
-ghost use Rattle.kat_tree.specs.Lexeme.{nesting};
 ghost use Rattle.kat_tree.specs.Preorder.{count_of};
 ghost use Rattle.kat_tree.specs.Written.{IsWritable};
+ghost use Rattle.kat_ast.specs.declared.decl.DeclForm.{DeclForm};
+ghost use Rattle.kat_ast.specs.Limits.{decl_trees_bound};
 ghost use Rattle.kat_ast.specs.Spec.{Spec};
 ghost use Rattle.kat_ast.specs.Declarations.{tree_of_decl, IsDecl};
 ghost use Rattle.kat_ast.specs.Specifications.{Describes};
-ghost use Rattle.kat_forms.specs.declared.misfit.Misfit.{Misfit};
-ghost use Rattle.kat_forms.specs.Fits.{fits, misfit_of};
-ghost use Rattle.kat_forms.specs.Parts.{Fits, IsPartOfText};
-ghost use Rattle.kat_forms.specs.Reading.{IsFirstMisfit, Names, GivesSpec, GivesMisfit};
+ghost use Rattle.kat_shapes.specs.declared.misfit.Misfit.{Misfit as AnyMisfit};
+ghost use Rattle.kat_shapes.specs.Places.{AllHaveForm, IsFirstMisfit as IsFirstMisfitOf};
+ghost use Rattle.kat_forms.specs.Parts.{FitsSort, IsPartOfText};
+ghost use Rattle.kat_forms.specs.Reading.{DescribesDecl, IsFirstMisfit, IsFirstMisfitOfDecl, Names, Gives, GivesMisfit};
 
 use crate::declarations::decl_in;
 use crate::error::FormError;
-use crate::fits::check;
-use crate::sort::Sort;
+use crate::laws::written_fits;
 use kat_ast::{Decl, Spec, one_form};
+use kat_shapes::{Misfit, Sort, judge, one_judgement};
 use kat_tree::{Tree, written_layers};
 use sqlite_items::Items;
 use std::alloc::{AllocError, Global};
 
-// The declaration that a tree of a text is.
-fn whole_decl_in(tree: &Tree, alloc: Global) -> Result<Decl, AllocError>
-    requires fits { Fits Sort.Declaration tree.now }
-    requires text { IsPartOfText tree.now }
-    ensures { IfOk result (λ d. (tree_of_decl d ≡ tree.now) × IsDecl d) }
+/// The specification that a tree describes. It is a tree of a text: some bytes spell it. An error but `Memory` is the
+/// first tree, in preorder, that has no form where it stands: a list whose first word is no form there, or whose count
+/// of trees is not the form's, is refused itself, and else its parts are read in order. A number past the greatest of
+/// 64 bits stands still there.
+pub fn read_spec(alloc: Global, tree: &Tree) -> Result<Spec, FormError>
+    requires text { IsWritable tree.now }
+    requires small { (parts : List Tree) → tree.now ≡ variant.List parts →
+        AllByRecursion (λ (part : Tree). count_of part < decl_trees_bound) parts }
+
+    // What is read is what the tree describes.
+    ensures found { IfOk result (λ spec. Describes tree.now spec) }
+    // What the tree describes is read, unless memory runs out.
+    ensures only { (spec : Spec) → Describes tree.now spec → Gives result spec }
+
+    // A refusal names the first misfit.
+    ensures refused { IfErr result (λ e. Names e (IsFirstMisfit tree.now)) }
+    // The first misfit is the answer, unless memory runs out.
+    ensures first { (misfit : AnyMisfit) → IsFirstMisfit tree.now misfit → GivesMisfit result misfit }
 {
-    Ok(Decl::new(decl_in(tree, alloc)?))
+    written_layers();
+    written_fits();
+    one_form();
+    one_judgement();
+    judged_spec(alloc, tree)
 }
 
-// The declarations that trees of a text are.
-fn decls_in(trees: &[Tree], alloc: Global) -> Result<Items<Decl>, AllocError>
-    requires fits { AllByRecursion (Fits Sort.Declaration) trees.now }
-    requires text { AllByRecursion IsPartOfText trees.now }
-    ensures { IfOk result (λ ds. (map tree_of_decl ds ≡ trees.now) × AllByRecursion IsDecl ds) }
+/// The declaration that a tree is by itself: one that may stand directly in the root of a text. Errors are those of
+/// `read_spec`; place 0 is the declaration.
+pub fn read_decl(alloc: Global, tree: &Tree) -> Result<Decl, FormError>
+    requires { IsPartOfText tree.now }
+
+    // What is read is what the tree describes.
+    ensures found { IfOk result (λ decl. DescribesDecl tree.now decl) }
+    // What the tree describes is read, unless memory runs out.
+    ensures only { (decl : DeclForm) → DescribesDecl tree.now decl → Gives result decl }
+
+    // A refusal names the first misfit.
+    ensures refused { IfErr result (λ e. Names e (IsFirstMisfitOfDecl tree.now)) }
+    // The first misfit is the answer, unless memory runs out.
+    ensures first { (misfit : AnyMisfit) → IsFirstMisfitOfDecl tree.now misfit → GivesMisfit result misfit }
 {
-    let mut decls = Items::new(alloc);
-    for tree in trees {
-        decls.push(whole_decl_in(tree, alloc)?)?;
+    written_fits();
+    one_form();
+    one_judgement();
+    judged_decl(alloc, tree)
+}
+
+/// The specification of a tree, or its first misfit.
+fn judged_spec(alloc: Global, tree: &Tree) -> Result<Spec, FormError>
+    requires { (parts : List Tree) → tree.now ≡ variant.List parts → AllByRecursion IsPartOfText parts }
+    ensures { MatchResult result
+        (λ spec. AllHaveForm Sort.Spec tree.now × Describes tree.now spec)
+        (λ e. Names e (IsFirstMisfitOf Sort.Spec tree.now)) }
+{
+    match judge(tree, Sort::Spec) {
+        Ok(()) => Ok(spec_in(alloc, tree)?),
+        Err(misfit) => Err(refusal(misfit)),
     }
-    Ok(decls)
 }
 
-// The specification that a tree of a text is.
-fn spec_in(tree: &Tree, alloc: Global) -> Result<Spec, AllocError>
-    requires fits { Fits Sort.Spec tree.now }
+/// The declaration of a tree, or its first misfit.
+fn judged_decl(alloc: Global, tree: &Tree) -> Result<Decl, FormError>
+    requires { IsPartOfText tree.now }
+    ensures { MatchResult result
+        (λ decl. AllHaveForm Sort.Declaration tree.now × DescribesDecl tree.now decl)
+        (λ e. Names e (IsFirstMisfitOf Sort.Declaration tree.now)) }
+{
+    match judge(tree, Sort::Declaration) {
+        Ok(()) => Ok(whole_decl_in(alloc, tree)?),
+        Err(misfit) => Err(refusal(misfit)),
+    }
+}
+
+/// The refusal that names a misfit.
+fn refusal(misfit: Misfit) -> FormError
+    ensures { result ≡ FormError.Wanted misfit.place misfit.wanted }
+{
+    FormError::Wanted {
+        place: misfit.place,
+        wanted: misfit.wanted,
+    }
+}
+
+/// The specification that a tree of a text is.
+fn spec_in(alloc: Global, tree: &Tree) -> Result<Spec, AllocError>
+    requires fits { FitsSort Sort.Spec tree.now }
     requires text { (parts : List Tree) → tree.now ≡ variant.List parts → AllByRecursion IsPartOfText parts }
     ensures { IfOk result (λ spec. Describes tree.now spec) }
 {
@@ -58,43 +120,27 @@ fn spec_in(tree: &Tree, alloc: Global) -> Result<Spec, AllocError>
     let [_, _, trees @ ..] = parts.as_slice() else {
         unreachable!();
     };
-    Ok(Spec::new(1, decls_in(trees, alloc)?))
+    Ok(Spec::new(1, decls_in(alloc, trees)?))
 }
 
-// The specification of a tree, or its first misfit.
-fn read(tree: &Tree, alloc: Global) -> Result<Spec, FormError>
-    requires text { (parts : List Tree) → tree.now ≡ variant.List parts → AllByRecursion IsPartOfText parts }
-    requires numbered { count_of tree.now < 2 ^ 64 }
-    ensures { MatchResult result (λ spec. (fits Sort.Spec tree.now ≡ true) × Describes tree.now spec) (λ e. Names e (IsFirstMisfit tree.now)) }
+/// The declarations that trees of a text are.
+fn decls_in(alloc: Global, trees: &[Tree]) -> Result<Items<Decl>, AllocError>
+    requires fits { AllByRecursion (FitsSort Sort.Declaration) trees.now }
+    requires text { AllByRecursion IsPartOfText trees.now }
+    ensures { IfOk result (λ ds. (map tree_of_decl ds ≡ trees.now) × AllByRecursion IsDecl ds) }
 {
-    match check(tree, Sort::Spec, 0) {
-        Ok(_) => Ok(spec_in(tree, alloc)?),
-        Err(misfit) => Err(FormError::Wanted {
-            place: misfit.place,
-            wanted: misfit.wanted,
-        }),
+    let mut decls = Items::new(alloc);
+    for tree in trees {
+        decls.push(whole_decl_in(alloc, tree)?)?;
     }
+    Ok(decls)
 }
 
-/// The specification that a tree describes. It is a tree of a text: some bytes spell it. An error but `Memory` is the
-/// first tree, in preorder, that fits no form: a list whose first word is no form there, or whose count of trees is not
-/// the form's, is refused itself, and else its parts are read in order.
-pub fn read_spec(alloc: Global, tree: &Tree) -> Result<Spec, FormError>
-    requires text { IsWritable tree.now }
-    requires small { (parts : List Tree) → tree.now ≡ variant.List parts → AllByRecursion (λ (part : Tree). count_of part < 2 ^ 32) parts }
-    requires numbered { count_of tree.now < 2 ^ 64 }
-
-    // What is read is what the tree describes.
-    ensures found { IfOk result (λ spec. Describes tree.now spec) }
-    // What the tree describes is read, unless memory runs out.
-    ensures only { (spec : Spec) → Describes tree.now spec → GivesSpec result spec }
-
-    // A refusal names the first misfit.
-    ensures refused { IfErr result (λ e. Names e (IsFirstMisfit tree.now)) }
-    // The first misfit is the answer, unless memory runs out.
-    ensures first { (misfit : Misfit) → IsFirstMisfit tree.now misfit → GivesMisfit result misfit }
+/// The declaration that a tree of a text is.
+fn whole_decl_in(alloc: Global, tree: &Tree) -> Result<Decl, AllocError>
+    requires fits { FitsSort Sort.Declaration tree.now }
+    requires text { IsPartOfText tree.now }
+    ensures { IfOk result (λ d. DescribesDecl tree.now d) }
 {
-    written_layers();
-    one_form();
-    read(tree, alloc)
+    Ok(Decl::new(decl_in(alloc, tree)?))
 }

@@ -1,16 +1,24 @@
-use Rattle.std.proofs.Common.{◌+◌, ◌*◌, map}
+use Rattle.std.proofs.Common.{◌+◌, ◌*◌}
+use Rattle.kat_tree.specs.Preorder.{count_of}
 use Rattle.kat_ast.specs.Assertions.{is_formed_assertion, tree_of_assertion}
-use Rattle.kat_forms.specs.Fits.{judged}
-use Rattle.kat_forms.proofs.Checking.{count_of_parts}
-use Rattle.kat_forms.proofs.Lists.{SoFar}
+use Rattle.kat_forms.proofs.Lists.{SoFar, counts}
 use Rattle.kat_forms.proofs.assertions.+assertions.Given as goal
 
 abbrev pub invariant-assertions_in-loop-tree : goal.invariant-assertions_in-loop-tree
 invariant-assertions_in-loop-tree l = SoFar tree_of_assertion is_formed_assertion l.trees l.all l.tree-index
 
--- a tree's parts are read after it, and a part after its neighbours: twice the trees, and one more for parts side by side
+-- a tree comes before its parts, and parts side by side before each of them
 abbrev pub decreases-assertion_in : goal.decreases-assertion_in
-decreases-assertion_in l = 2 * (judged l.tree.now).count
+decreases-assertion_in l = 3 * count_of l.tree.now
+
+abbrev pub decreases-star_in : goal.decreases-star_in
+decreases-star_in l = 3 * counts l.parts.now + 2
+
+abbrev pub decreases-if_in : goal.decreases-if_in
+decreases-if_in l = 3 * counts l.parts.now + 2
+
+abbrev pub decreases-exists_in : goal.decreases-exists_in
+decreases-exists_in l = 3 * counts l.parts.now + 2
 
 abbrev pub decreases-assertions_in : goal.decreases-assertions_in
-decreases-assertions_in l = 2 * count_of_parts (map judged l.trees.now) + 1
+decreases-assertions_in l = 3 * counts l.trees.now + 1

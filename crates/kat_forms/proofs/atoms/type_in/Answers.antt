@@ -1,17 +1,19 @@
-use Rattle.std.proofs.Common.{arith, ap, sym, ◌∙◌, ◌∷◌, [], refl}
+use Rattle.std.proofs.Common.{◌-◌, ◌++◌, [], ◌∷◌, length, map, refl, ap, sym, subst, ◌∙◌, arith}
 use Rattle.std.specs.Prelude.{codes}
 use Rattle.kat_tree.specs.declared.tree.Tree.TheVariants as variant
-use Rattle.kat_forms.specs.declared.sort.Sort.TheVariants as sort
-use Rattle.kat_forms.specs.Shapes.{exactly}
-use Rattle.kat_forms.proofs.Rebuilt.{form_of, next, nothing, small_word}
+use Rattle.kat_shapes.specs.declared.sort.Sort.TheVariants as sort
+use Rattle.kat_ast.specs.Parts.{word}
+use Rattle.kat_forms.proofs.Fitting.{held_part, list_holder}
+use Rattle.kat_forms.proofs.SmallForms.{one_bits}
 use Rattle.kat_forms.proofs.atoms.type_in.Goals as goal
 
-pub returns-in-len2 : goal.returns-in-len2
-returns-in-len2 c =
-    let parts = c.as_slice.result.now in
-    let is = c.in-List.is ∙ ap variant.List (sym c.as_slice.ensures) in
-    let head = small_word sort.TypeName (codes "bits") (exactly (sort.Word ∷ sort.Number ∷ [])) c.args.tree.now parts refl (λ x. refl) is c.requires in (
-      form_of c.args.tree.now parts (codes "bits") _ (record { is = is; word = head })
-          (next parts 1 c.width-item.result _ _ (omega arith) c.width-item.is c.number_in.ensures (nothing parts 2 (omega arith))),
-      refl,
-    )
+pub part_of-requires : goal.part_of-requires
+part_of-requires c = list_holder sort.TypeName (codes "bits") sort.Number c.args.tree.now _ one_bits c.in-List.is c.requires
+
+pub number_in-requires : goal.number_in-requires
+number_in-requires c = (held_part sort.TypeName (codes "bits") sort.Number one_bits c.part_of.ensures.0 c.args.tree.now c.part_of.result.now c.part_of.ensures.1 c.requires).1
+
+pub returns-in-List : goal.returns-in-List
+returns-in-List c =
+    let held = held_part sort.TypeName (codes "bits") sort.Number one_bits c.part_of.ensures.0 c.args.tree.now c.part_of.result.now c.part_of.ensures.1 c.requires in
+    (ap (λ t. variant.List (word (codes "bits") ∷ t ∷ [])) c.number_in.ensures ∙ held.0, refl)

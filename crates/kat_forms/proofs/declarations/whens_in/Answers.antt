@@ -5,6 +5,5 @@ use Rattle.kat_forms.proofs.declarations.whens_in.Goals as goal
 
 pub loop-tree-preserved : goal.loop-tree-preserved
 loop-tree-preserved c =
-    rw c.in_ok-push.ensures.ok
-    (one_more tree_of_when is_formed_when c.args.trees.now c.loop-tree.cases c.loop-tree.tree-index c.in_ok-when_in.field-0 c.tree-item.result
-    c.loop-tree.invariant (omega arith) c.tree-item.is c.in_ok-when_in.ensures.0 c.in_ok-when_in.ensures.1)
+    one_more tree_of_when is_formed_when c.args.trees.now c.loop-tree.cases _ c.loop-tree.tree-index c.in_ok-when_in.field-0 c.tree-item.result
+    c.in_ok-push.ensures.ok c.loop-tree.invariant (omega arith) c.tree-item.is c.in_ok-when_in.ensures.0 c.in_ok-when_in.ensures.1

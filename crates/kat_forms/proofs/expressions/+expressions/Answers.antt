@@ -1,104 +1,91 @@
--- Each form is written again from its parts, and each part has fewer trees than the whole.
-use Rattle.std.proofs.Common.{[], ◌∷◌, ◌++◌, length, map, refl, ap, sym, ◌∙◌, arith}
-use Rattle.std.proofs.lemmas.List.{take_rest}
+-- The parts of each form fit, and each part has fewer trees than the whole.
+use Rattle.std.proofs.Common.{◌-◌, [], ◌∷◌, length, map, refl, ap, sym, subst, ◌∙◌, arith}
+use Rattle.std.specs.Prelude.{codes}
+use Rattle.std.specs.List.{AllByRecursion}
+use Rattle.kat_tree.specs.Preorder.{count_of}
 use Rattle.kat_tree.specs.declared.tree.Tree.TheVariants as variant
-use Rattle.kat_value.specs.Words.{word_of_op}
-use Rattle.kat_ast.specs.Parts.{form}
-use Rattle.kat_ast.specs.Expressions.{is_formed_expr, numbers_before, tree_of_expr}
-use Rattle.kat_forms.specs.declared.heads.ExprHead.TheVariants as head
-use Rattle.kat_forms.specs.declared.sort.Sort.TheVariants.{Word, Name, Expression}
-use Rattle.kat_forms.specs.Heads.{word_of_expr}
-use Rattle.kat_forms.specs.Fits.{judged}
-use Rattle.kat_forms.proofs.Exprs.{applied, begun, fit_as, formed-Get, formed-Make, formed-Rec, tree-Apply, tree-Get, tree-Make, tree-Rec, with_two}
-use Rattle.kat_forms.proofs.Lists.{both, one_more}
-use Rattle.kat_forms.proofs.PartsFit.{exact_fit, one_fit, part_among, part_fit, rest_fit, rest_among, operation_among}
-use Rattle.kat_forms.proofs.Rebuilt.{form_of, next, nothing, others}
+use Rattle.kat_value.specs.Words.{arity_of}
+use Rattle.kat_ast.specs.Expressions.{is_formed_expr, tree_of_expr}
+use Rattle.kat_shapes.specs.declared.sort.Sort.TheVariants as sort
+use Rattle.kat_forms.specs.Parts.{FitsSort}
+use Rattle.kat_forms.proofs.Lists.{behind_fewer, count-List, one_and, one_more, one_of, part_among, rest_among, rest_is, same_first}
+use Rattle.kat_forms.proofs.Fitting.{all_same, arm_fits, exact_parts, headed, many_parts, rest_fits}
+use Rattle.kat_forms.proofs.ExpressionForms.{Rec-is, arguments_fit, operation_is}
 use Rattle.kat_forms.proofs.expressions.+expressions.Goals as goal
 
-pub nested_expr_in-expr_in-requires : goal.nested_expr_in-expr_in-requires
-nested_expr_in-expr_in-requires t c =
-    let parts = c.args.parts.now in
-    let fit = exact_fit (Word ∷ Name ∷ Expression ∷ []) (length parts) (map judged parts) (fit_as parts c.args.head head.Make c.requires.fit c.in-Make.is) in (
-      omega (arith, c.decreases, part_among parts 2 c.payload-item.result (omega arith) c.payload-item.is),
-      part_fit (Word ∷ Name ∷ Expression ∷ []) parts 2 c.payload-item.result fit.1 (omega arith) (omega arith) c.payload-item.is,
-    )
-
-pub nested_expr_in-expr_in-requires-in-Get : goal.nested_expr_in-expr_in-requires-in-Get
-nested_expr_in-expr_in-requires-in-Get t c =
-    let parts = c.args.parts.now in
-    let fit = exact_fit (Word ∷ Name ∷ Name ∷ Expression ∷ []) (length parts) (map judged parts) (fit_as parts c.args.head head.Get c.requires.fit c.in-Get.is) in (
-      omega (arith, c.decreases, part_among parts 3 c.value-item.result (omega arith) c.value-item.is),
-      part_fit (Word ∷ Name ∷ Name ∷ Expression ∷ []) parts 3 c.value-item.result fit.1 (omega arith) (omega arith) c.value-item.is,
-    )
-
-pub nested_expr_in-exprs_in-requires : goal.nested_expr_in-exprs_in-requires
-nested_expr_in-exprs_in-requires t c =
-    let parts = c.args.parts.now in (
-      omega (arith, c.decreases, rest_among parts _ 2 (take_rest parts 2)),
-      rw (take_rest parts 2) (rest_fit (Word ∷ Name ∷ []) Expression (length parts) parts refl (fit_as parts c.args.head head.Rec c.requires.fit c.in-Rec.is)),
-    )
-
-pub nested_expr_in-exprs_in-requires-in_default : goal.nested_expr_in-exprs_in-requires-in_default
-nested_expr_in-exprs_in-requires-in_default t c =
-    let op = c.operation_in-op.result.0 in
-    let made = c.operation_in-op.ensures in
-    (omega (arith, c.decreases, operation_among c.args.parts.now (word_of_op op) (numbers_before op) c.operation_in-op.result.1.now made.tree), made.fit)
-
-pub nested_expr_in-returns-in_ok-payload-in-Make : goal.nested_expr_in-returns-in_ok-payload-in-Make
-nested_expr_in-returns-in_ok-payload-in-Make t c =
-    let parts = c.args.parts.now in
-    let ctor = c.in_ok-ctor-in-Make in
-    let payload = c.in_ok-payload-in-Make in (
-      tree-Make ctor.ctor payload.payload
-          ∙ with_two parts (word_of_expr head.Make) c.ctor-item.result c.payload-item.result _ _ (begun parts c.args.head head.Make c.requires.word c.in-Make.is) (omega arith)
-          c.ctor-item.is c.payload-item.is ctor.ensures.0 (ap tree_of_expr payload.ensures ∙ c.in_ok-expr_in-in-Make.ensures.0),
-      formed-Make ctor.ctor payload.payload ∙ both _ _ ctor.ensures.1 (ap is_formed_expr payload.ensures ∙ c.in_ok-expr_in-in-Make.ensures.1),
-    )
-
-pub nested_expr_in-returns-in_ok-value-in-Get : goal.nested_expr_in-returns-in_ok-value-in-Get
-nested_expr_in-returns-in_ok-value-in-Get t c =
-    let parts = c.args.parts.now in
-    let of = c.in_ok-of-in-Get in
-    let field = c.in_ok-field-in-Get in
-    let value = c.in_ok-value-in-Get in (
-      tree-Get of.of field.field value.value
-          ∙ form_of (variant.List parts) parts (word_of_expr head.Get) _ (begun parts c.args.head head.Get c.requires.word c.in-Get.is)
-          (next parts 1 c.of-item.result _ _ (omega arith) c.of-item.is of.ensures.0
-          (next parts 2 c.field-item.result _ _ (omega arith) c.field-item.is field.ensures.0
-          (next parts 3 c.value-item.result _ _ (omega arith) c.value-item.is (ap tree_of_expr value.ensures ∙ c.in_ok-expr_in-in-Get.ensures.0) (nothing parts 4 (omega arith))))),
-      formed-Get of.of field.field value.value
-          ∙ both _ _ of.ensures.1 (both _ _ field.ensures.1 (ap is_formed_expr value.ensures ∙ c.in_ok-expr_in-in-Get.ensures.1)),
-    )
-
-pub nested_expr_in-returns-in_ok-fields-in-Rec : goal.nested_expr_in-returns-in_ok-fields-in-Rec
-nested_expr_in-returns-in_ok-fields-in-Rec t c =
-    let parts = c.args.parts.now in
-    let of = c.in_ok-of-in-Rec in
-    let fields = c.in_ok-fields-in-Rec in (
-      tree-Rec of.of fields.fields
-          ∙ form_of (variant.List parts) parts (word_of_expr head.Rec) _ (begun parts c.args.head head.Rec c.requires.word c.in-Rec.is)
-          (next parts 1 c.record-item.result _ _ (omega arith) c.record-item.is of.ensures.0 (others parts _ 2 _ (take_rest parts 2) fields.ensures.0)),
-      formed-Rec of.of fields.fields ∙ both _ _ of.ensures.1 fields.ensures.1,
-    )
-
-pub nested_expr_in-returns-in_ok-args-in_default : goal.nested_expr_in-returns-in_ok-args-in_default
-nested_expr_in-returns-in_ok-args-in_default t c =
-    let op = c.operation_in-op.result.0 in
-    let made = c.operation_in-op.ensures in
-    let args = c.in_ok-args-in_default in (
-      tree-Apply op args.args ∙ ap (λ ts. form (word_of_op op) (numbers_before op ++ ts)) args.ensures.0 ∙ sym made.tree,
-      applied op args.args c.operation_in-op.result.1.now made.written made.count args.ensures.0 args.ensures.1,
-    )
+pub expr_in-list_in-requires : goal.expr_in-list_in-requires
+expr_in-list_in-requires t c =
+    let is = c.in-List.is ∙ ap variant.List (sym c.as_slice.ensures) in
+    (omega (arith, c.decreases, ap count_of is, count-List c.as_slice.result.now), subst (FitsSort sort.Expression) is c.requires)
 
 pub exprs_in-expr_in-requires : goal.exprs_in-expr_in-requires
 exprs_in-expr_in-requires t c =
     let trees = c.args.trees.now in (
       omega (arith, c.decreases, part_among trees c.loop-tree.tree-index c.tree-item.result (omega arith) c.tree-item.is),
-      one_fit Expression trees c.loop-tree.tree-index c.tree-item.result c.requires (omega arith) c.tree-item.is,
+      one_of (FitsSort sort.Expression) trees c.loop-tree.tree-index c.tree-item.result c.requires (omega arith) c.tree-item.is,
     )
 
 pub exprs_in-loop-tree-preserved : goal.exprs_in-loop-tree-preserved
 exprs_in-loop-tree-preserved t c =
-    rw c.in_ok-push.ensures.ok
-    (one_more tree_of_expr is_formed_expr c.args.trees.now c.loop-tree.exprs c.loop-tree.tree-index c.in_ok-expr_in.field-0 c.tree-item.result
-    c.loop-tree.invariant (omega arith) c.tree-item.is c.in_ok-expr_in.ensures.0 c.in_ok-expr_in.ensures.1)
+    one_more tree_of_expr is_formed_expr c.args.trees.now c.loop-tree.exprs _ c.loop-tree.tree-index c.in_ok-expr_in.field-0 c.tree-item.result
+    c.in_ok-push.ensures.ok c.loop-tree.invariant (omega arith) c.tree-item.is c.in_ok-expr_in.ensures.0 c.in_ok-expr_in.ensures.1
+
+pub list_in-split-requires : goal.list_in-split-requires
+list_in-split-requires t c = headed sort.Expression c.args.parts.now refl c.requires
+
+pub list_in-bits_in-requires : goal.list_in-bits_in-requires
+list_in-bits_in-requires t c = exact_parts sort.Expression (codes "bits") (sort.Number ∷ sort.Number ∷ []) _ refl (arm_fits sort.Expression (codes "bits") _ _ _ c.split.ensures c.in-bits.is c.requires)
+
+pub list_in-of_in-requires : goal.list_in-of_in-requires
+list_in-of_in-requires t c = exact_parts sort.Expression (codes "of") (sort.Name ∷ sort.Name ∷ []) _ refl (arm_fits sort.Expression (codes "of") _ _ _ c.split.ensures c.in-of.is c.requires)
+
+pub list_in-register_in-requires : goal.list_in-register_in-requires
+list_in-register_in-requires t c = exact_parts sort.Expression (codes "reg") (sort.Name ∷ []) _ refl (arm_fits sort.Expression (codes "reg") _ _ _ c.split.ensures c.in-reg.is c.requires)
+
+pub list_in-kept_in-requires : goal.list_in-kept_in-requires
+list_in-kept_in-requires t c = exact_parts sort.Expression (codes "kept") (sort.Name ∷ []) _ refl (arm_fits sort.Expression (codes "kept") _ _ _ c.split.ensures c.in-kept.is c.requires)
+
+pub list_in-kept_cell_in-requires : goal.list_in-kept_cell_in-requires
+list_in-kept_cell_in-requires t c = exact_parts sort.Expression (codes "kept_cell") (sort.Number ∷ []) _ refl (arm_fits sort.Expression (codes "kept_cell") _ _ _ c.split.ensures c.in-kept_cell.is c.requires)
+
+pub list_in-before_in-requires : goal.list_in-before_in-requires
+list_in-before_in-requires t c = exact_parts sort.Expression (codes "before") (sort.Name ∷ []) _ refl (arm_fits sort.Expression (codes "before") _ _ _ c.split.ensures c.in-before.is c.requires)
+
+pub list_in-after_in-requires : goal.list_in-after_in-requires
+list_in-after_in-requires t c = exact_parts sort.Expression (codes "after") (sort.Name ∷ []) _ refl (arm_fits sort.Expression (codes "after") _ _ _ c.split.ensures c.in-after.is c.requires)
+
+pub list_in-before_cell_in-requires : goal.list_in-before_cell_in-requires
+list_in-before_cell_in-requires t c = exact_parts sort.Expression (codes "before_cell") (sort.Number ∷ []) _ refl (arm_fits sort.Expression (codes "before_cell") _ _ _ c.split.ensures c.in-before_cell.is c.requires)
+
+pub list_in-after_cell_in-requires : goal.list_in-after_cell_in-requires
+list_in-after_cell_in-requires t c = exact_parts sort.Expression (codes "after_cell") (sort.Number ∷ []) _ refl (arm_fits sort.Expression (codes "after_cell") _ _ _ c.split.ensures c.in-after_cell.is c.requires)
+
+pub list_in-rec_in-requires : goal.list_in-rec_in-requires
+list_in-rec_in-requires t c = (
+  omega (arith, c.decreases, behind_fewer _ _ _ c.split.ensures),
+  many_parts sort.Expression (codes "rec") (sort.Name ∷ []) sort.Expression _ refl (arm_fits sort.Expression (codes "rec") _ _ _ c.split.ensures c.in-rec.is c.requires),
+)
+
+pub operation_in-exprs_in-requires : goal.operation_in-exprs_in-requires
+operation_in-exprs_in-requires t c = (
+  omega arith,
+  all_same sort.Expression (arity_of c.in-Some.op) c.args.parts.now
+      (arguments_fit c.args.word.now c.in-Some.op c.args.parts.now c.requires.0.none (sym c.op_of_word.ensures ∙ c.in-Some.is) c.requires.0.fits).fit,
+)
+
+pub operation_in-returns : goal.operation_in-returns
+operation_in-returns t c =
+    operation_is c.args.word.now c.in-Some.op c.args.parts.now c.in_ok-args.args c.requires.0.none (sym c.op_of_word.ensures ∙ c.in-Some.is) c.requires.0.fits c.in_ok-args.ensures
+
+pub rec_in-exprs_in-requires : goal.rec_in-exprs_in-requires
+rec_in-exprs_in-requires t c =
+    let parts = c.args.parts.now in (
+      omega (arith, c.decreases, rest_among parts 1),
+      subst (AllByRecursion (FitsSort sort.Expression)) (sym (rest_is parts 1)) (rest_fits (sort.Name ∷ []) sort.Expression (length parts - 1) parts c.requires),
+    )
+
+pub rec_in-returns : goal.rec_in-returns
+rec_in-returns t c =
+    let parts = c.args.parts.now in
+    Rec-is parts c.in_ok-of.of c.in_ok-fields.fields (same_first c.in_ok-of.ensures.0 c.in_ok-fields.ensures.0 ∙ sym (one_and parts c.of-item.result (omega arith) c.of-item.is))
+    c.in_ok-of.ensures.1 c.in_ok-fields.ensures.1

@@ -1,11 +1,13 @@
-use Rattle.std.proofs.Common.{ap, sym, ◌∙◌}
+use Rattle.std.proofs.Common.{◌-◌, [], ◌∷◌, length, refl, ap, sym, subst, ◌∙◌}
 use Rattle.kat_tree.specs.declared.tree.Tree.TheVariants as variant
-use Rattle.kat_forms.specs.declared.sort.Sort.TheVariants as sort
-use Rattle.kat_forms.proofs.PartsFit.{some_fit}
-use Rattle.kat_forms.proofs.Rebuilt.{fits_list}
+use Rattle.kat_shapes.specs.declared.sort.Sort.TheVariants as sort
+use Rattle.kat_forms.specs.Parts.{FitsSort}
+use Rattle.kat_forms.proofs.Fitting.{many_place, some_fit}
 use Rattle.kat_forms.proofs.params.fields_in.Goals as goal
 
 pub params_of-requires : goal.params_of-requires
 params_of-requires c =
-    some_fit sort.Param c.as_slice.result.now
-    (fits_list sort.Fields c.args.tree.now c.as_slice.result.now (c.in-List.is ∙ ap variant.List (sym c.as_slice.ensures)) c.requires)
+    let parts = c.as_slice.result.now in
+    let fit = subst (FitsSort sort.Fields) (c.in-List.is ∙ ap variant.List (sym c.as_slice.ensures)) c.requires in
+    let has = many_place sort.Fields (sort.Param ∷ []) sort.Param parts (λ found. refl) fit in
+    some_fit sort.Param (length parts - 1) parts has

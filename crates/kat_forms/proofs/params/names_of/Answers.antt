@@ -5,6 +5,5 @@ use Rattle.kat_forms.proofs.params.names_of.Goals as goal
 
 pub loop-tree-preserved : goal.loop-tree-preserved
 loop-tree-preserved c =
-    rw c.in_ok-push.ensures.ok
-    (one_more word is_name c.args.trees.now c.loop-tree.names c.loop-tree.tree-index c.in_ok-name_in.field-0 c.tree-item.result
-    c.loop-tree.invariant (omega arith) c.tree-item.is c.in_ok-name_in.ensures.0 c.in_ok-name_in.ensures.1)
+    one_more word is_name c.args.trees.now c.loop-tree.names _ c.loop-tree.tree-index c.in_ok-name_in.field-0 c.tree-item.result
+    c.in_ok-push.ensures.ok c.loop-tree.invariant (omega arith) c.tree-item.is c.in_ok-name_in.ensures.0 c.in_ok-name_in.ensures.1

@@ -1,17 +1,15 @@
 use Rattle.std.proofs.Common.{ap, sym, subst, ◌∙◌}
 use Rattle.std.specs.List.{AllByRecursion}
 use Rattle.kat_tree.specs.declared.tree.Tree.TheVariants as variant
-use Rattle.kat_forms.specs.declared.sort.Sort.TheVariants as sort
-use Rattle.kat_forms.specs.Parts.{Fits, IsPartOfText}
-use Rattle.kat_forms.proofs.StatementForms.{rest_is}
-use Rattle.kat_forms.proofs.Whole.{declarations_fit, spec_made, all_behind}
+use Rattle.kat_shapes.specs.declared.sort.Sort.TheVariants as sort
+use Rattle.kat_forms.specs.Parts.{FitsSort, IsPartOfText}
+use Rattle.kat_forms.proofs.Lists.{rest_is, all_behind}
+use Rattle.kat_forms.proofs.SpecificationForms.{decls_fit_here, spec_made}
 use Rattle.kat_forms.proofs.read.spec_in.Goals as goal
 
 pub decls_in-requires-clause-fits : goal.decls_in-requires-clause-fits
 decls_in-requires-clause-fits c =
-    let parts = c.as_slice.result.now in
-    subst (AllByRecursion (Fits sort.Declaration)) (sym (rest_is parts 2))
-    (declarations_fit c.args.tree.now parts (c.in-List.is ∙ ap variant.List (sym c.as_slice.ensures)) c.requires.fits)
+    decls_fit_here c.as_slice.result.now (subst (FitsSort sort.Spec) (c.in-List.is ∙ ap variant.List (sym c.as_slice.ensures)) c.requires.fits)
 
 pub decls_in-requires-clause-text : goal.decls_in-requires-clause-text
 decls_in-requires-clause-text c =
@@ -21,6 +19,6 @@ decls_in-requires-clause-text c =
 
 pub returns : goal.returns
 returns c =
-    let parts = c.as_slice.result.now in
-    spec_made c.args.tree.now parts (c.in-List.is ∙ ap variant.List (sym c.as_slice.ensures)) c.requires.fits c.in_ok-decls_in.field-0
-    (c.in_ok-decls_in.ensures.0 ∙ rest_is parts 2) c.in_ok-decls_in.ensures.1
+    let is = c.in-List.is ∙ ap variant.List (sym c.as_slice.ensures) in
+    spec_made c.args.tree.now c.as_slice.result.now c.in_ok-decls_in.field-0 is (subst (FitsSort sort.Spec) is c.requires.fits)
+    c.in_ok-decls_in.ensures.0 c.in_ok-decls_in.ensures.1

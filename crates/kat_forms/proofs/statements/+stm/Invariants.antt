@@ -1,20 +1,28 @@
-use Rattle.std.proofs.Common.{◌+◌, ◌*◌, map}
-use Rattle.kat_ast.specs.Statements.{tree_of_stm, is_formed_stm}
-use Rattle.kat_forms.specs.Fits.{judged}
-use Rattle.kat_forms.proofs.Checking.{count_of_parts}
-use Rattle.kat_forms.proofs.Lists.{SoFar}
-use Rattle.kat_forms.proofs.StatementForms.{case_tree, case_formed, match_tree, match_formed, counts}
+use Rattle.std.proofs.Common.{◌+◌, ◌*◌}
+use Rattle.kat_tree.specs.Preorder.{count_of}
+use Rattle.kat_ast.specs.Statements.{is_formed_stm, tree_of_stm}
+use Rattle.kat_forms.specs.Forms.{case_tree, case_formed, match_tree, match_formed}
+use Rattle.kat_forms.proofs.Lists.{SoFar, counts}
 use Rattle.kat_forms.proofs.statements.+stm.Given as goal
 
 -- a tree comes before its parts, and parts side by side before each of them
 abbrev pub decreases-stm_in : goal.decreases-stm_in
-decreases-stm_in l = 3 * (judged l.tree.now).count
+decreases-stm_in l = 3 * count_of l.tree.now
+
+abbrev pub decreases-let_in : goal.decreases-let_in
+decreases-let_in l = 3 * counts l.parts.now + 2
+
+abbrev pub decreases-seq_in : goal.decreases-seq_in
+decreases-seq_in l = 3 * counts l.parts.now + 2
+
+abbrev pub decreases-if_in : goal.decreases-if_in
+decreases-if_in l = 3 * counts l.parts.now + 2
 
 abbrev pub decreases-case_in : goal.decreases-case_in
-decreases-case_in l = 3 * count_of_parts (map judged l.parts.now) + 2
+decreases-case_in l = 3 * counts l.parts.now + 2
 
 abbrev pub decreases-match_in : goal.decreases-match_in
-decreases-match_in l = 3 * count_of_parts (map judged l.parts.now) + 2
+decreases-match_in l = 3 * counts l.parts.now + 2
 
 abbrev pub decreases-stms_in : goal.decreases-stms_in
 decreases-stms_in l = 3 * counts l.trees.now + 1
