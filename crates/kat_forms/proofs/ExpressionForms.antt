@@ -33,7 +33,7 @@ use Rattle.kat_ast.specs.Parts.{is_name, every}
 use Rattle.kat_ast.specs.Expressions.{expr_formed, is_formed_expr, are_formed_exprs}
 use Rattle.kat_shapes.specs.Forms.{Form, Rows, exactly, many, form_of, form_in, newest, row_of, expressions}
 use Rattle.kat_shapes.specs.Fits.{fits}
-use Rattle.kat_forms.specs.Parts.{FitsSort, AllFit, HasParts}
+use Rattle.kat_forms.specs.Parts.{told_expressions, FitsSort, AllFit, HasParts, IsPlain}
 use Rattle.kat_forms.specs.Forms.{IsExpr, AreExprs}
 use Rattle.kat_forms.proofs.Lists.{both, same1, same2, same3, same_first}
 use Rattle.kat_forms.proofs.Fitting.{token_fits, fits_of_token, headed, all_same, rest_fits, form_fits, exactly_sorts, all_of_one, exact_parts, many_parts, no_form}
@@ -153,9 +153,9 @@ pub record IsBare (w : List ℕ) (o : Op) : Type 0 where
   pub written : is_written o ≡ true
   pub formed : form_of newest sort.Expression (Some w) ≡ Some (exactly (sort.Word ∷ replicate (arity_of o) sort.Expression))
 
--- the forms that are no operations with arguments alone come first in the table
+-- a word is none of those that tell an expression of their own
 abbrev pub IsNoValue : List ℕ → Type 0
-IsNoValue w = row_of (take 15 expressions) w ≡ None
+IsNoValue w = row_of told_expressions w ≡ None
 
 -- operations by their words
 abbrev rows : List Op → Rows Op
@@ -194,9 +194,11 @@ row_behind (a ∷ first) rest w none = behind_by a.1 (row_of first w) (row_of (f
 -- a list of an expression begins with the word of an operation, or with one of the first words
 pub no_row : (w : List ℕ) → IsNoValue w → op_of_word w ≡ None → row_of expressions w ≡ None
 no_row w no_value none =
-    row_behind (take 15 expressions) (drop 15 expressions) w no_value
-    ∙ none_either (rows written_ops) (drop 15 expressions) w
-    (refl, (refl, (refl, (refl, (refl, (refl, (refl, (refl, (refl, (refl, (refl, (refl, (refl, (refl, (refl, (refl, (refl, (refl, (refl, (refl, tt)))))))))))))))))))) (sym (among_rows written_ops w) ∙ none)
+    row_behind (take 12 expressions) (drop 12 expressions) w
+    (none_either told_expressions (take 12 expressions) w (refl, (refl, (refl, (refl, (refl, (refl, (refl, (refl, (refl, (refl, (refl, (refl, tt)))))))))))) no_value)
+    ∙ none_either (rows written_ops) (drop 12 expressions) w
+    (refl, (refl, (refl, (refl, (refl, (refl, (refl, (refl, (refl, (refl, (refl, (refl, (refl, (refl, (refl, (refl, (refl, (refl, (refl, (refl, (refl, (refl, (refl, tt)))))))))))))))))))))))
+    (sym (among_rows written_ops w) ∙ none)
 
 -- and so its parts are those of the operation
 pub row_wanted : (w : List ℕ) (parts : List Tree) → row_of expressions w ≡ None → FitsSort sort.Expression (form w parts) → ⊥
@@ -227,17 +229,20 @@ op_fits (op.Get r f) trees written count all = absurd (cc)
 op_fits o trees written count all = plain_fits o trees refl count all
 
 -- the arguments of an operation
-pub arguments_fit : (w : List ℕ) (o : Op) (parts : List Tree) → IsNoValue w → op_of_word w ≡ Some o → FitsSort sort.Expression (form w parts) →
+arguments_fit : (w : List ℕ) (o : Op) (parts : List Tree) → IsNoValue w → op_of_word w ≡ Some o → FitsSort sort.Expression (form w parts) →
     HasParts (replicate (arity_of o) sort.Expression) parts
 arguments_fit w o parts no_value found fit =
     exact_parts sort.Expression w (replicate (arity_of o) sort.Expression) parts (bare_found w o no_value found).formed fit
 
-pub operation_is : (w : List ℕ) (o : Op) (parts : List Tree) (es : List Expr) → IsNoValue w → op_of_word w ≡ Some o → FitsSort sort.Expression (form w parts) →
-    AreExprs parts es → IsExpr (form w parts) (made.Apply o es)
-operation_is w o parts es no_value found fit are =
+pub plain_op : (w : List ℕ) (o : Op) (parts : List Tree) → IsNoValue w → op_of_word w ≡ Some o → FitsSort sort.Expression (form w parts) → IsPlain parts o
+plain_op w o parts no_value found fit =
     let bare = bare_found w o no_value found in
-    let h = arguments_fit w o parts no_value found fit in
-    Apply-is o es w parts parts bare.word_is bare.written (h.count ∙ length-replicate (arity_of o) sort.Expression) are.0 are.1 (ap (λ ns. ns ++ parts) bare.alone)
+    record { alone = bare.alone; written = bare.written; args = arguments_fit w o parts no_value found fit }
+
+pub plain_is : (o : Op) (parts : List Tree) (es : List Expr) → IsPlain parts o → AreExprs parts es → IsExpr (form (word_of_op o) parts) (made.Apply o es)
+plain_is o parts es plain are =
+    Apply-is o es (word_of_op o) parts parts refl plain.written (plain.args.count ∙ length-replicate (arity_of o) sort.Expression) are.0 are.1
+    (ap (λ ns. ns ++ parts) plain.alone)
 
 -- an expression of right form fits
 abbrev ExprFits : Expr → Type 0
@@ -447,106 +452,74 @@ list_rows : AllByRecursion (λ (row : List ℕ × Form). ListOf row.0 row.1) exp
 list_rows = (
   λ ps fit. bits-from ps (exact_parts sort.Expression (codes "bits") (sort.Number ∷ sort.Number ∷ []) (trees ps) refl fit),
   (
-    λ ps fit. of-from ps (exact_parts sort.Expression (codes "of") (sort.Name ∷ sort.Name ∷ []) (trees ps) refl fit),
-    (
-      λ ps fit. make-from ps (exact_parts sort.Expression (codes "make") (sort.Name ∷ sort.Expression ∷ []) (trees ps) refl fit),
-      (
-        λ ps fit. rec-from ps (many_parts sort.Expression (codes "rec") (sort.Name ∷ []) sort.Expression (trees ps) refl fit),
-        (
-          λ ps fit. register-from ps (exact_parts sort.Expression (codes "reg") (sort.Name ∷ []) (trees ps) refl fit),
-          (
-            λ ps fit. kept-from ps (exact_parts sort.Expression (codes "kept") (sort.Name ∷ []) (trees ps) refl fit),
-            (
-              λ ps fit. keptCell-from ps (exact_parts sort.Expression (codes "kept_cell") (sort.Number ∷ []) (trees ps) refl fit),
-              (
-                λ ps fit. before-from ps (exact_parts sort.Expression (codes "before") (sort.Name ∷ []) (trees ps) refl fit),
-                (
-                  λ ps fit. after-from ps (exact_parts sort.Expression (codes "after") (sort.Name ∷ []) (trees ps) refl fit),
-                  (
-                    λ ps fit. beforeCell-from ps (exact_parts sort.Expression (codes "before_cell") (sort.Number ∷ []) (trees ps) refl fit),
-                    (
-                      λ ps fit. afterCell-from ps (exact_parts sort.Expression (codes "after_cell") (sort.Number ∷ []) (trees ps) refl fit),
-                      (
-                        λ ps fit. get-from ps (exact_parts sort.Expression (codes "get") (sort.Name ∷ sort.Name ∷ sort.Expression ∷ []) (trees ps) refl fit),
-                        (
-                          λ ps fit. slice-from ps (exact_parts sort.Expression (codes "slice") (sort.Number ∷ sort.Number ∷ sort.Expression ∷ []) (trees ps) refl fit),
-                          (
-                            λ ps fit. zext-from ps (exact_parts sort.Expression (codes "zext") (sort.Number ∷ sort.Expression ∷ []) (trees ps) refl fit),
-                            (
-                              λ ps fit. sext-from ps (exact_parts sort.Expression (codes "sext") (sort.Number ∷ sort.Expression ∷ []) (trees ps) refl fit),
-                              (
-                                bare_list op.Not (record { word_is = refl; alone = refl; written = refl; formed = refl }),
-                                (
-                                  bare_list op.And (record { word_is = refl; alone = refl; written = refl; formed = refl }),
-                                  (
-                                    bare_list op.Or (record { word_is = refl; alone = refl; written = refl; formed = refl }),
-                                    (
-                                      bare_list op.Eq (record { word_is = refl; alone = refl; written = refl; formed = refl }),
-                                      (
-                                        bare_list op.Ult (record { word_is = refl; alone = refl; written = refl; formed = refl }),
-                                        (
-                                          bare_list op.Ule (record { word_is = refl; alone = refl; written = refl; formed = refl }),
-                                          (
-                                            bare_list op.Slt (record { word_is = refl; alone = refl; written = refl; formed = refl }),
-                                            (
-                                              bare_list op.Sle (record { word_is = refl; alone = refl; written = refl; formed = refl }),
-                                              (
-                                                bare_list op.Add (record { word_is = refl; alone = refl; written = refl; formed = refl }),
-                                                (
-                                                  bare_list op.Sub (record { word_is = refl; alone = refl; written = refl; formed = refl }),
-                                                  (
-                                                    bare_list op.Mul (record { word_is = refl; alone = refl; written = refl; formed = refl }),
-                                                    (
-                                                      bare_list op.Band (record { word_is = refl; alone = refl; written = refl; formed = refl }),
-                                                      (
-                                                        bare_list op.Bor (record { word_is = refl; alone = refl; written = refl; formed = refl }),
-                                                        (
-                                                          bare_list op.Bxor (record { word_is = refl; alone = refl; written = refl; formed = refl }),
-                                                          (
-                                                            bare_list op.Bnot (record { word_is = refl; alone = refl; written = refl; formed = refl }),
-                                                            (
-                                                              bare_list op.Shl (record { word_is = refl; alone = refl; written = refl; formed = refl }),
-                                                              (
-                                                                bare_list op.Shr (record { word_is = refl; alone = refl; written = refl; formed = refl }),
-                                                                (
-                                                                  bare_list op.Sar (record { word_is = refl; alone = refl; written = refl; formed = refl }),
-                                                                  (
-                                                                    bare_list op.Cat (record { word_is = refl; alone = refl; written = refl; formed = refl }),
-                                                                    (bare_list op.Ite (record { word_is = refl; alone = refl; written = refl; formed = refl }), tt),
-                                                                  ),
-                                                                ),
-                                                              ),
-                                                            ),
-                                                          ),
-                                                        ),
-                                                      ),
-                                                    ),
-                                                  ),
-                                                ),
-                                              ),
-                                            ),
-                                          ),
-                                        ),
-                                      ),
-                                    ),
-                                  ),
-                                ),
-                              ),
-                            ),
-                          ),
-                        ),
-                      ),
-                    ),
-                  ),
-                ),
-              ),
-            ),
-          ),
-        ),
-      ),
-    ),
-  ),
-)
+  λ ps fit. of-from ps (exact_parts sort.Expression (codes "of") (sort.Name ∷ sort.Name ∷ []) (trees ps) refl fit),
+  (
+  λ ps fit. make-from ps (exact_parts sort.Expression (codes "make") (sort.Name ∷ sort.Expression ∷ []) (trees ps) refl fit),
+  (
+  λ ps fit. rec-from ps (many_parts sort.Expression (codes "rec") (sort.Name ∷ []) sort.Expression (trees ps) refl fit),
+  (
+  λ ps fit. register-from ps (exact_parts sort.Expression (codes "reg") (sort.Name ∷ []) (trees ps) refl fit),
+  (
+  λ ps fit. kept-from ps (exact_parts sort.Expression (codes "kept") (sort.Name ∷ []) (trees ps) refl fit),
+  (
+  λ ps fit. keptCell-from ps (exact_parts sort.Expression (codes "kept_cell") (sort.Number ∷ []) (trees ps) refl fit),
+  (
+  λ ps fit. before-from ps (exact_parts sort.Expression (codes "before") (sort.Name ∷ []) (trees ps) refl fit),
+  (
+  λ ps fit. after-from ps (exact_parts sort.Expression (codes "after") (sort.Name ∷ []) (trees ps) refl fit),
+  (
+  λ ps fit. beforeCell-from ps (exact_parts sort.Expression (codes "before_cell") (sort.Number ∷ []) (trees ps) refl fit),
+  (
+  λ ps fit. afterCell-from ps (exact_parts sort.Expression (codes "after_cell") (sort.Number ∷ []) (trees ps) refl fit),
+  (
+  λ ps fit. get-from ps (exact_parts sort.Expression (codes "get") (sort.Name ∷ sort.Name ∷ sort.Expression ∷ []) (trees ps) refl fit),
+  (
+  bare_list op.Not (record { word_is = refl; alone = refl; written = refl; formed = refl }),
+  (
+  bare_list op.And (record { word_is = refl; alone = refl; written = refl; formed = refl }),
+  (
+  bare_list op.Or (record { word_is = refl; alone = refl; written = refl; formed = refl }),
+  (
+  bare_list op.Eq (record { word_is = refl; alone = refl; written = refl; formed = refl }),
+  (
+  bare_list op.Ult (record { word_is = refl; alone = refl; written = refl; formed = refl }),
+  (
+  bare_list op.Ule (record { word_is = refl; alone = refl; written = refl; formed = refl }),
+  (
+  bare_list op.Slt (record { word_is = refl; alone = refl; written = refl; formed = refl }),
+  (
+  bare_list op.Sle (record { word_is = refl; alone = refl; written = refl; formed = refl }),
+  (
+  bare_list op.Add (record { word_is = refl; alone = refl; written = refl; formed = refl }),
+  (
+  bare_list op.Sub (record { word_is = refl; alone = refl; written = refl; formed = refl }),
+  (
+  bare_list op.Mul (record { word_is = refl; alone = refl; written = refl; formed = refl }),
+  (
+  bare_list op.Band (record { word_is = refl; alone = refl; written = refl; formed = refl }),
+  (
+  bare_list op.Bor (record { word_is = refl; alone = refl; written = refl; formed = refl }),
+  (
+  bare_list op.Bxor (record { word_is = refl; alone = refl; written = refl; formed = refl }),
+  (
+  bare_list op.Bnot (record { word_is = refl; alone = refl; written = refl; formed = refl }),
+  (
+  bare_list op.Shl (record { word_is = refl; alone = refl; written = refl; formed = refl }),
+  (
+  bare_list op.Shr (record { word_is = refl; alone = refl; written = refl; formed = refl }),
+  (
+  bare_list op.Sar (record { word_is = refl; alone = refl; written = refl; formed = refl }),
+  (
+  λ ps fit. slice-from ps (exact_parts sort.Expression (codes "slice") (sort.Number ∷ sort.Number ∷ sort.Expression ∷ []) (trees ps) refl fit),
+  (
+  bare_list op.Cat (record { word_is = refl; alone = refl; written = refl; formed = refl }),
+  (
+  λ ps fit. zext-from ps (exact_parts sort.Expression (codes "zext") (sort.Number ∷ sort.Expression ∷ []) (trees ps) refl fit),
+  (
+  λ ps fit. sext-from ps (exact_parts sort.Expression (codes "sext") (sort.Number ∷ sort.Expression ∷ []) (trees ps) refl fit),
+  (
+  bare_list op.Ite (record { word_is = refl; alone = refl; written = refl; formed = refl }),
+  tt)))))))))))))))))))))))))))))))))))
 
 list_by : (w : List ℕ) (ps : List Known) (found : Option Form) → row_of expressions w ≡ found → FitsSort sort.Expression (form w (trees ps)) →
     (x : Expr) × IsExpr (form w (trees ps)) x

@@ -222,6 +222,12 @@ pub some_fit : (s : Sort) (n : ℕ) (parts : List Tree) → HasParts (s ∷ repl
 some_fit s n [] has = absurd has.fit
 some_fit s n (t ∷ parts) has = (has.fit.0, all_same s n parts has.fit.1)
 
+-- at least two parts, all of one sort: those behind the first
+pub behind_first : (s : Sort) (n : ℕ) (parts : List Tree) → HasParts (s ∷ s ∷ replicate n s) parts → AllByRecursion (FitsSort s) (drop 1 parts)
+behind_first s n [] has = absurd has.fit
+behind_first s n (t ∷ []) has = absurd has.fit.1
+behind_first s n (t ∷ u ∷ parts) has = (has.fit.1.0, all_same s n parts has.fit.1.1)
+
 -- the parts before the last
 all_before : (s last : Sort) (n : ℕ) (parts : List Tree) → AllFit (replicate n s ++ last ∷ []) parts → AllByRecursion (FitsSort s) (take n parts)
 all_before s last zero parts fit = tt

@@ -95,6 +95,18 @@ two_and parts a b long p q = next parts 0 a _ (omega arith) p (next parts 1 b _ 
 pub same_parts : (a b : List Tree) → variant.List a ≡ variant.List b → a ≡ b
 same_parts a b e = let f : Tree-F.List a ≡ Tree-F.List b = sym (outs-List a) ∙ ap out-Tree e ∙ outs-List b in cc
 
+-- no parts
+pub no_parts : (parts : List Tree) → length parts ≡ 0 → [] ≡ parts
+no_parts [] e = refl
+no_parts (t ∷ parts) e = absurd (omega arith)
+
+-- all parts but the last, and the last
+pub with_last : (parts : List Tree) (n : ℕ) (part : Tree) → length parts ≡ n + 1 → At parts n part → take n parts ++ part ∷ [] ≡ parts
+with_last [] n part long at = absurd (omega arith)
+with_last (t ∷ []) zero part long at = ap (λ u. u ∷ []) at
+with_last (t ∷ u ∷ parts) zero part long at = absurd (omega arith)
+with_last (t ∷ parts) (suc n) part long at = ap (λ ts. t ∷ ts) (with_last parts n part (omega arith) at)
+
 -- how many trees there are in trees side by side
 abbrev pub counts : List Tree → ℕ
 counts [] = 0

@@ -1,5 +1,5 @@
 -- What the parts of a list that fits are, sort by sort.
-use Rattle.std.specs.Prelude.{◌≡◌, ◌<◌, ◌≤◌, ℕ, true, List, [], ◌∷◌, length}
+use Rattle.std.specs.Prelude.{◌≡◌, ◌<◌, ◌≤◌, ℕ, true, List, [], ◌∷◌, ◌++◌, length, replicate, take, codes}
 use Rattle.std.specs.List.{AllByRecursion}
 use Rattle.kat_tree.specs.declared.tree.Tree.{Tree}
 use Rattle.kat_tree.specs.declared.tree.Tree.TheVariants as variant
@@ -9,6 +9,12 @@ use Rattle.kat_tree.specs.Written.{IsWritable}
 use Rattle.kat_ast.specs.Limits.{deepest_decl, decl_trees_bound}
 use Rattle.kat_ast.specs.Parts.{word, form}
 use Rattle.kat_shapes.specs.declared.sort.Sort.{Sort}
+use Rattle.kat_shapes.specs.declared.sort.Sort.TheVariants as sort
+use Rattle.kat_value.specs.declared.op.Op.{Op}
+use Rattle.kat_value.specs.declared.op.Op.TheVariants.{Slice, Zext, Sext}
+use Rattle.kat_value.specs.Words.{arity_of, is_written}
+use Rattle.kat_ast.specs.Expressions.{numbers_before}
+use Rattle.kat_shapes.specs.Forms.{Form, Rows, expressions, form_of_op}
 use Rattle.kat_shapes.specs.Fits.{fits}
 
 -- a tree can be read as this
@@ -55,3 +61,19 @@ pub record IsPartOfText (tree : Tree) : Type 0 where
 pub record IsText (tree : Tree) : Type 0 where
   pub writable : IsWritable tree
   pub small : (parts : List Tree) → tree ≡ variant.List parts → AllByRecursion (λ (part : Tree). count_of part < decl_trees_bound) parts
+
+-- the arguments of an operation that is written with its arguments alone
+pub record IsPlain (parts : List Tree) (op : Op) : Type 0 where
+  pub alone : numbers_before op ≡ []
+  pub written : is_written op ≡ true
+  pub args : HasParts (replicate (arity_of op) sort.Expression) parts
+
+-- the expressions that are told by words of their own; all others are operations that are written
+-- with their arguments alone
+abbrev pub told_expressions : Rows Form
+told_expressions =
+    take 12 expressions
+    ++ (codes "slice", form_of_op (Slice 0 0))
+    ∷ (codes "zext", form_of_op (Zext 0))
+    ∷ (codes "sext", form_of_op (Sext 0))
+    ∷ []

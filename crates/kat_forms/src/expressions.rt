@@ -1,12 +1,13 @@
 //! Expressions.
 
-ghost use Rattle.std.specs.Prelude.{◌≡◌, ◌-◌, true, None, [], ◌∷◌, IfOk, length, map, replicate, take, codes};
+ghost use Rattle.std.specs.Prelude.{◌≡◌, ◌-◌, true, None, [], ◌∷◌, IfOk, length, map, replicate, codes};
 ghost use Rattle.std.specs.List.{AllByRecursion};
 ghost use Rattle.kat_tree.specs.declared.tree.Tree.TheVariants as variant;
+ghost use Rattle.kat_value.specs.Words.{word_of_op};
 ghost use Rattle.kat_ast.specs.Parts.{is_name, word, form};
 ghost use Rattle.kat_ast.specs.Expressions.{is_formed_expr, are_formed_exprs, tree_of_expr};
-ghost use Rattle.kat_shapes.specs.Forms.{expressions, row_of};
-ghost use Rattle.kat_forms.specs.Parts.{FitsSort, HasParts};
+ghost use Rattle.kat_shapes.specs.Forms.{row_of};
+ghost use Rattle.kat_forms.specs.Parts.{FitsSort, HasParts, IsPlain, told_expressions};
 ghost use Rattle.kat_forms.specs.Forms.{IsExpr, AreExprs};
 
 use crate::atoms::{name_in, number_in, only_name, only_number, split};
@@ -79,7 +80,7 @@ fn list_in(alloc: Global, parts: &[Tree]) -> Result<Expr, AllocError>
         "slice" => slice_in(alloc, parts),
         "zext" => zext_in(alloc, parts),
         "sext" => sext_in(alloc, parts),
-        _ => operation_in(alloc, word, parts),
+        _ => operation_in(alloc, plain_op(word, parts), parts),
     }
 }
 
@@ -259,16 +260,25 @@ fn sext_in(alloc: Global, parts: &[Tree]) -> Result<Expr, AllocError>
     Ok(Expr::Apply { op, args })
 }
 
-/// An operation that is written with its arguments alone.
-#[cycle(expressions)]
-fn operation_in(alloc: Global, word: &str, parts: &[Tree]) -> Result<Expr, AllocError>
+/// The operation that a word begins, written with its arguments alone.
+fn plain_op(word: &str, parts: &[Tree]) -> Op
     requires fits { FitsSort Sort.Expression (form word.now parts.now) }
-    requires none { row_of (take 15 expressions) word.now ≡ None }
-    ensures { IfOk result (λ e. IsExpr (form word.now parts.now) e) }
+    requires untold { row_of told_expressions word.now ≡ None }
+    ensures named { word_of_op result ≡ word.now }
+    ensures plain { IsPlain parts.now result }
 {
     let Some(op) = op_of_word(word) else {
         unreachable!();
     };
+    op
+}
+
+/// `(o E ..)`, an operation with its arguments alone.
+#[cycle(expressions)]
+fn operation_in(alloc: Global, op: Op, parts: &[Tree]) -> Result<Expr, AllocError>
+    requires { IsPlain parts.now op }
+    ensures { IfOk result (λ e. IsExpr (form (word_of_op op) parts.now) e) }
+{
     let args = exprs_in(alloc, parts)?;
     Ok(Expr::Apply { op, args })
 }

@@ -1,13 +1,14 @@
-// Each form of the language once as it is to be; and with a part too few or too many, another first word, a word of a value or
-// a number in place of a name, and a name in place of a number. Behind each stands the first misfit that `print` names, or
-// nothing where the form is right and is printed.
+//! Each form of the language once as it is to be; and with a part too few or too many, another
+//! first word, a word of a value or a number in place of a name, and a name in place of a number.
+//! Behind each stands the first misfit that `print` names, or nothing where the form is right and is
+//! printed.
 
 use crate::tests::print_agrees;
 use kat_top::Status;
 use std::alloc::{AllocError, Global};
 use std::test::Fail;
 
-// Whether `print` answers so for a text: by the text itself, or by the misfit.
+/// Whether `print` answers so for a text: by the text itself, or by the misfit.
 fn form_agrees(alloc: Global, spec: &str, misfit: &str) -> Result<bool, AllocError> {
     if misfit.is_empty() {
         let text = format!(in alloc; "{spec}\n")?;

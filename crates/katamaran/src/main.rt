@@ -12,7 +12,7 @@ use std::alloc::{AllocError, Global};
 use std::process::ExitCode;
 use std::{env, io};
 
-// The words after the program's name. Words that are no text are those of no job, as no words are.
+/// The words after the program's name. Words that are no text are those of no job, as no words are.
 fn words(rt: &HostRuntime) -> Result<Vec<String>, AllocError> {
     let mut words = Vec::new(rt.alloc());
     match env::args(rt) {

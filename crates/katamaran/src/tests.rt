@@ -7,22 +7,22 @@ use sqlite_items::Items;
 use std::alloc::{AllocError, Global};
 use std::test::Fail;
 
-// A machine that adds one to its register while that is below three, and then fails.
+/// A machine that adds one to its register while that is below three, and then fails.
 const TO_THREE: &str =
     "(spec 1 (register n (bits 8) plain) (fun f () unit (let a (read n) (if (ult a (bits 8 3)) (write n (add a (bits 8 1))) (fail)))) (step f))";
 
-// The same with a call in place of its `fail`.
+/// The same with a call in place of its `fail`.
 const WITH_CALL: &str =
     "(spec 1 (register n (bits 8) plain) (fun f () unit (let a (read n) (if (ult a (bits 8 3)) (write n (add a (bits 8 1))) (call f)))) (step f))";
 
-// One bracket more is open than may be.
+/// One bracket more is open than may be.
 const SIXTY_FIVE_OPEN: &str = "(((((((((((((((((((((((((((((((((((((((((((((((((((((((((((((((((";
 
-// As many brackets are open as may be.
+/// As many brackets are open as may be.
 const SIXTY_FOUR_NESTED: &str =
     "(((((((((((((((((((((((((((((((((((((((((((((((((((((((((((((((())))))))))))))))))))))))))))))))))))))))))))))))))))))))))))))))";
 
-// The two files of a run.
+/// The two files of a run.
 fn two_files(alloc: Global, spec: &[u8], image: &str) -> Result<Vec<Named>, AllocError> {
     let mut files = Vec::new(alloc);
     files.push(Named {
@@ -36,7 +36,7 @@ fn two_files(alloc: Global, spec: &[u8], image: &str) -> Result<Vec<Named>, Allo
     Ok(files)
 }
 
-// The words of a line.
+/// The words of a line.
 fn words_of(alloc: Global, line: &str) -> Result<Vec<String>, AllocError> {
     let mut words = Vec::new(alloc);
     for word in line.split_whitespace() {
@@ -45,7 +45,7 @@ fn words_of(alloc: Global, line: &str) -> Result<Vec<String>, AllocError> {
     Ok(words)
 }
 
-// The numbers of the reads, or writes, that fail: one, or none where it is 0.
+/// The numbers of the reads, or writes, that fail: one, or none where it is 0.
 fn failing(alloc: Global, number: u64) -> Result<Vec<u64>, AllocError> {
     let mut numbers = Vec::new(alloc);
     if number > 0 {
@@ -54,7 +54,7 @@ fn failing(alloc: Global, number: u64) -> Result<Vec<u64>, AllocError> {
     Ok(numbers)
 }
 
-// One call of the program: what it is given, and what it has to answer.
+/// One call of the program: what it is given, and what it has to answer.
 #[derive(Clone, Copy, Drop)]
 struct Row<'a> {
     words: &'a str,
@@ -66,7 +66,7 @@ struct Row<'a> {
     text: &'a str,
 }
 
-// So many blanks.
+/// So many blanks.
 fn blanks(alloc: Global, count: usize) -> Result<Vec<u8>, AllocError> {
     let mut bytes = Vec::new(alloc);
     for _ in 0..count {
@@ -75,7 +75,7 @@ fn blanks(alloc: Global, count: usize) -> Result<Vec<u8>, AllocError> {
     Ok(bytes)
 }
 
-// Whether a call answers as its row says, by its status and every byte.
+/// Whether a call answers as its row says, by its status and every byte.
 fn agrees(alloc: Global, row: &Row<'_>) -> Result<bool, AllocError> {
     let words = words_of(alloc, row.words)?;
     let files = two_files(alloc, row.spec, row.image)?;
@@ -85,7 +85,7 @@ fn agrees(alloc: Global, row: &Row<'_>) -> Result<bool, AllocError> {
     Ok(status == row.status && out.contents() == row.text.as_bytes())
 }
 
-// Whether a run of the machine that counts to three answers so, from 1.
+/// Whether a run of the machine that counts to three answers so, from 1.
 fn count_agrees(
     alloc: Global,
     words: &str,
@@ -104,7 +104,7 @@ fn count_agrees(
     agrees(alloc, &row)
 }
 
-// Whether a text and an image are not built.
+/// Whether a text and an image are not built.
 fn is_unbuilt(alloc: Global, spec: &str, image: &str) -> Result<bool, AllocError> {
     let row = Row {
         words: "run s i --cycles 1 --calls 1",
@@ -118,53 +118,55 @@ fn is_unbuilt(alloc: Global, spec: &str, image: &str) -> Result<bool, AllocError
     agrees(alloc, &row)
 }
 
+/// Words, and what the program answers to them.
+const RUNS: &[(&str, Status, &str)] = &[
+    (
+        "run s i --cycles 3 --calls 1",
+        Status::Failed,
+        "at 0\nreg n 0x01\nat 1\nreg n 0x02\nat 2\nreg n 0x03\nfailed 3 1 30\n",
+    ),
+    (
+        "run s i --cycles 02 --calls 1",
+        Status::Ok,
+        "at 0\nreg n 0x01\nat 1\nreg n 0x02\nat 2\nreg n 0x03\nended 2\n",
+    ),
+    (
+        "run s i --cycles 0 --calls 1",
+        Status::Ok,
+        "at 0\nreg n 0x01\nended 0\n",
+    ),
+    (
+        "run --calls=64 s --cycles=1 i",
+        Status::Ok,
+        "at 0\nreg n 0x01\nat 1\nreg n 0x02\nended 1\n",
+    ),
+    (
+        "run s i --cycles 1000001 --calls 1",
+        Status::Usage,
+        "usage\n",
+    ),
+    ("run s i --cycles 3 --calls 65", Status::Usage, "usage\n"),
+    ("run @s i --cycles 3 --calls 1", Status::Usage, "usage\n"),
+    ("run s @i --cycles 3 --calls 1", Status::Usage, "usage\n"),
+    (
+        "run s i --cycles 3 --calls 1 --devices 0",
+        Status::Usage,
+        "usage\n",
+    ),
+    ("check s", Status::Usage, "usage\n"),
+    ("print @s", Status::Usage, "usage\n"),
+    ("", Status::Usage, "usage\n"),
+    (
+        "run s none --cycles 3 --calls 1",
+        Status::ReadFault,
+        "read none\n",
+    ),
+];
+
 #[test]
 fn runs_write_their_states(rt: HostRuntime) -> Result<(), Fail> {
-    let rows = [
-        (
-            "run s i --cycles 3 --calls 1",
-            Status::Failed,
-            "at 0\nreg n 0x01\nat 1\nreg n 0x02\nat 2\nreg n 0x03\nfailed 3 1 30\n",
-        ),
-        (
-            "run s i --cycles 02 --calls 1",
-            Status::Ok,
-            "at 0\nreg n 0x01\nat 1\nreg n 0x02\nat 2\nreg n 0x03\nended 2\n",
-        ),
-        (
-            "run s i --cycles 0 --calls 1",
-            Status::Ok,
-            "at 0\nreg n 0x01\nended 0\n",
-        ),
-        (
-            "run --calls=64 s --cycles=1 i",
-            Status::Ok,
-            "at 0\nreg n 0x01\nat 1\nreg n 0x02\nended 1\n",
-        ),
-        (
-            "run s i --cycles 1000001 --calls 1",
-            Status::Usage,
-            "usage\n",
-        ),
-        ("run s i --cycles 3 --calls 65", Status::Usage, "usage\n"),
-        ("run @s i --cycles 3 --calls 1", Status::Usage, "usage\n"),
-        ("run s @i --cycles 3 --calls 1", Status::Usage, "usage\n"),
-        (
-            "run s i --cycles 3 --calls 1 --devices 0",
-            Status::Usage,
-            "usage\n",
-        ),
-        ("check s", Status::Usage, "usage\n"),
-        ("print @s", Status::Usage, "usage\n"),
-        ("", Status::Usage, "usage\n"),
-        (
-            "run s none --cycles 3 --calls 1",
-            Status::ReadFault,
-            "read none\n",
-        ),
-    ];
-    for (words, status, text) in rows {
-        let agrees = count_agrees(rt.alloc(), words, status, text)?;
+    for (words, status, text) in RUNS {
+        let agrees = count_agrees(rt.alloc(), words, *status, text)?;
         assert!(rt; agrees, "at {words}");
     }
     Ok(())
@@ -195,7 +197,7 @@ fn texts_and_images_that_are_not_built(rt: HostRuntime) -> Result<(), Fail> {
     Ok(())
 }
 
-// Whether the job `print` answers so for a text.
+/// Whether the job `print` answers so for a text.
 pub(crate) fn print_agrees(
     alloc: Global,
     spec: &str,

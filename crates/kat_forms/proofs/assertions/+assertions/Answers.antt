@@ -1,12 +1,17 @@
 -- The parts of each form fit, and each part has fewer trees than the whole.
-use Rattle.std.proofs.Common.{◌-◌, [], ◌∷◌, length, map, refl, ap, sym, subst, ◌∙◌, arith}
-use Rattle.std.specs.Prelude.{codes}
+use Rattle.std.proofs.Common.{◌≡◌, ◌-◌, [], ◌∷◌, length, map, refl, ap, sym, subst, ◌∙◌, arith}
+use Rattle.std.specs.Prelude.{codes, replicate}
+use Rattle.kat_tree.specs.Preorder.{count_of}
 use Rattle.std.specs.List.{AllByRecursion}
 use Rattle.kat_tree.specs.declared.tree.Tree.TheVariants as variant
 use Rattle.kat_ast.specs.Assertions.{is_formed_assertion, tree_of_assertion}
 use Rattle.kat_shapes.specs.declared.sort.Sort.TheVariants as sort
-use Rattle.kat_forms.specs.Parts.{FitsSort}
-use Rattle.kat_forms.proofs.Lists.{one_more, one_of, part_among}
+use Rattle.kat_ast.specs.Parts.{form}
+use Rattle.kat_ast.specs.declared.assertion.Assertion.TheVariants as made
+use Rattle.kat_forms.specs.Forms.{IsAssertion}
+use Rattle.kat_forms.specs.Parts.{FitsSort, HasParts}
+use Rattle.kat_forms.proofs.AssertionForms.{Exists-is}
+use Rattle.kat_forms.proofs.Lists.{behind_fewer, count-List, one_more, one_of, part_among, same2, two}
 use Rattle.kat_forms.proofs.Fitting.{all_same, arm_fits, exact_parts, headed, many_parts}
 use Rattle.kat_forms.proofs.assertions.+assertions.Goals as goal
 
@@ -44,3 +49,36 @@ pub star_in-assertions_in-requires : goal.star_in-assertions_in-requires
 star_in-assertions_in-requires t c =
     let parts = c.args.parts.now in
     (omega (arith, c.decreases), all_same sort.Assertion (length parts) parts c.requires.fit)
+
+pub assertion_in-star_in-requires : goal.assertion_in-star_in-requires
+assertion_in-star_in-requires t c =
+    let is = c.in-List.is ∙ ap variant.List (sym c.as_slice.ensures) in
+    let parts = c.split.result.1.now in
+    let all : length parts - 0 ≡ length parts = omega arith in (
+      omega (arith, c.decreases, ap count_of is, count-List c.as_slice.result.now, behind_fewer _ _ _ c.split.ensures),
+      subst (λ n. HasParts (replicate n sort.Assertion) parts) all
+          (many_parts sort.Assertion (codes "star") [] sort.Assertion parts refl (arm_fits sort.Assertion (codes "star") _ _ _ c.split.ensures c.in-star.is (subst (FitsSort sort.Assertion) is c.requires))),
+    )
+
+pub assertion_in-if_in-requires : goal.assertion_in-if_in-requires
+assertion_in-if_in-requires t c =
+    let is = c.in-List.is ∙ ap variant.List (sym c.as_slice.ensures) in (
+      omega (arith, c.decreases, ap count_of is, count-List c.as_slice.result.now, behind_fewer _ _ _ c.split.ensures),
+      exact_parts sort.Assertion (codes "if") (sort.Expression ∷ sort.Assertion ∷ sort.Assertion ∷ []) _ refl (arm_fits sort.Assertion (codes "if") _ _ _ c.split.ensures c.in-if.is (subst (FitsSort sort.Assertion) is c.requires)),
+    )
+
+pub assertion_in-exists_in-requires : goal.assertion_in-exists_in-requires
+assertion_in-exists_in-requires t c =
+    let is = c.in-List.is ∙ ap variant.List (sym c.as_slice.ensures) in (
+      omega (arith, c.decreases, ap count_of is, count-List c.as_slice.result.now, behind_fewer _ _ _ c.split.ensures),
+      exact_parts sort.Assertion (codes "exists") (sort.Param ∷ sort.Assertion ∷ []) _ refl (arm_fits sort.Assertion (codes "exists") _ _ _ c.split.ensures c.in-exists.is (subst (FitsSort sort.Assertion) is c.requires)),
+    )
+
+pub exists_in-returns : goal.exists_in-returns
+exists_in-returns t c =
+    let parts = c.args.parts.now in
+    let bound = c.in_ok-name.field-0 in
+    subst (λ b. IsAssertion (form (codes "exists") parts) (made.Exists bound.name bound.ty b)) (sym c.in_ok-body.ensures)
+    (Exists-is parts bound.name bound.ty c.in_ok-assertion_in.field-0
+        (same2 c.in_ok-name.ensures.0 c.in_ok-assertion_in.ensures.0 ∙ sym (two parts c.bound-item.result c.body-item.result c.requires.count c.bound-item.is c.body-item.is))
+        c.in_ok-name.ensures.1 c.in_ok-assertion_in.ensures.1)

@@ -21,8 +21,8 @@ pub assertion_in-requires-2 : goal.assertion_in-requires-2
 assertion_in-requires-2 c =
     (held_part sort.Post (codes "post") sort.Assertion one_post c.part_of-2.ensures.0 c.args.post.now c.part_of-2.result.now c.part_of-2.ensures.1 c.requires.post).1
 
-pub returns-in_ok-assertion_in : goal.returns-in_ok-assertion_in
-returns-in_ok-assertion_in c =
+pub returns : goal.returns
+returns c =
     let pre = held_part sort.Pre (codes "pre") sort.Assertion one_pre c.part_of.ensures.0 c.args.pre.now c.part_of.result.now c.part_of.ensures.1 c.requires.pre in
     let post = held_part sort.Post (codes "post") sort.Assertion one_post c.part_of-2.ensures.0 c.args.post.now c.part_of-2.result.now c.part_of-2.ensures.1 c.requires.post in (
       (ap (λ t. variant.List (word (codes "pre") ∷ t ∷ [])) c.in_ok-pre.ensures.0 ∙ pre.0, c.in_ok-pre.ensures.1),

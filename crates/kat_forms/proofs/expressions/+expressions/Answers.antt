@@ -10,7 +10,7 @@ use Rattle.kat_shapes.specs.declared.sort.Sort.TheVariants as sort
 use Rattle.kat_forms.specs.Parts.{FitsSort}
 use Rattle.kat_forms.proofs.Lists.{behind_fewer, count-List, one_and, one_more, one_of, part_among, rest_among, rest_is, same_first}
 use Rattle.kat_forms.proofs.Fitting.{all_same, arm_fits, exact_parts, headed, many_parts, rest_fits}
-use Rattle.kat_forms.proofs.ExpressionForms.{Rec-is, arguments_fit, operation_is}
+use Rattle.kat_forms.proofs.ExpressionForms.{Rec-is, plain_is}
 use Rattle.kat_forms.proofs.expressions.+expressions.Goals as goal
 
 pub expr_in-list_in-requires : goal.expr_in-list_in-requires
@@ -66,16 +66,17 @@ list_in-rec_in-requires t c = (
   many_parts sort.Expression (codes "rec") (sort.Name ∷ []) sort.Expression _ refl (arm_fits sort.Expression (codes "rec") _ _ _ c.split.ensures c.in-rec.is c.requires),
 )
 
+pub list_in-operation_in-requires : goal.list_in-operation_in-requires
+list_in-operation_in-requires t c = (omega (arith, c.decreases, behind_fewer _ _ _ c.split.ensures), c.plain_op.ensures.plain)
+
 pub operation_in-exprs_in-requires : goal.operation_in-exprs_in-requires
 operation_in-exprs_in-requires t c = (
-  omega arith,
-  all_same sort.Expression (arity_of c.in-Some.op) c.args.parts.now
-      (arguments_fit c.args.word.now c.in-Some.op c.args.parts.now c.requires.0.none (sym c.op_of_word.ensures ∙ c.in-Some.is) c.requires.0.fits).fit,
+  omega (arith, c.decreases),
+  all_same sort.Expression (arity_of c.args.op) c.args.parts.now c.requires.args.fit,
 )
 
 pub operation_in-returns : goal.operation_in-returns
-operation_in-returns t c =
-    operation_is c.args.word.now c.in-Some.op c.args.parts.now c.in_ok-args.args c.requires.0.none (sym c.op_of_word.ensures ∙ c.in-Some.is) c.requires.0.fits c.in_ok-args.ensures
+operation_in-returns t c = plain_is c.args.op c.args.parts.now c.in_ok-args.args c.requires c.in_ok-args.ensures
 
 pub rec_in-exprs_in-requires : goal.rec_in-exprs_in-requires
 rec_in-exprs_in-requires t c =

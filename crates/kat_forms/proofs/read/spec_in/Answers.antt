@@ -1,6 +1,7 @@
 use Rattle.std.proofs.Common.{ap, sym, subst, ◌∙◌}
 use Rattle.std.specs.List.{AllByRecursion}
 use Rattle.kat_tree.specs.declared.tree.Tree.TheVariants as variant
+use Rattle.kat_ast.specs.Specifications.{Describes}
 use Rattle.kat_shapes.specs.declared.sort.Sort.TheVariants as sort
 use Rattle.kat_forms.specs.Parts.{FitsSort, IsPartOfText}
 use Rattle.kat_forms.proofs.Lists.{rest_is, all_behind}
@@ -20,5 +21,6 @@ decls_in-requires-clause-text c =
 pub returns : goal.returns
 returns c =
     let is = c.in-List.is ∙ ap variant.List (sym c.as_slice.ensures) in
-    spec_made c.args.tree.now c.as_slice.result.now c.in_ok-decls_in.field-0 is (subst (FitsSort sort.Spec) is c.requires.fits)
-    c.in_ok-decls_in.ensures.0 c.in_ok-decls_in.ensures.1
+    subst (Describes c.args.tree.now) (sym c.new.ensures)
+    (spec_made c.args.tree.now c.as_slice.result.now c.in_ok-decls_in.field-0 is (subst (FitsSort sort.Spec) is c.requires.fits)
+        c.in_ok-decls_in.ensures.0 c.in_ok-decls_in.ensures.1)

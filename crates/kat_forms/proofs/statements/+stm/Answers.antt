@@ -5,14 +5,15 @@ use Rattle.std.specs.List.{AllByRecursion}
 use Rattle.std.proofs.lemmas.List.{length-replicate}
 use Rattle.kat_tree.specs.Preorder.{count_of}
 use Rattle.kat_tree.specs.declared.tree.Tree.TheVariants as variant
-use Rattle.kat_ast.specs.Parts.{is_name}
+use Rattle.kat_ast.specs.Parts.{form, is_name}
+use Rattle.kat_ast.specs.declared.stm.Stm.TheVariants as made
 use Rattle.kat_ast.specs.Statements.{is_formed_stm, tree_of_stm}
 use Rattle.kat_shapes.specs.declared.sort.Sort.TheVariants as sort
 use Rattle.kat_forms.specs.Parts.{FitsSort}
-use Rattle.kat_forms.specs.Forms.{case_tree, case_formed, match_tree, match_formed}
-use Rattle.kat_forms.proofs.Lists.{both, count-List, one_and, one_more, one_of, part_among, rest_among, rest_is, same2, same3, two, three}
+use Rattle.kat_forms.specs.Forms.{IsStm, case_tree, case_formed, match_tree, match_formed}
+use Rattle.kat_forms.proofs.Lists.{behind_fewer, both, count-List, no_parts, one_and, one_more, one_of, part_among, rest_among, rest_is, same2, same3, two, three}
 use Rattle.kat_forms.proofs.Fitting.{arm_fits, exact_parts, exact_place, part_fits, headed, many_parts, rest_fits, some_fit}
-use Rattle.kat_forms.proofs.StatementForms.{Seq-is, Case-is, Match-is}
+use Rattle.kat_forms.proofs.StatementForms.{Seq-is, Case-is, Match-is, Fail-is}
 use Rattle.kat_forms.proofs.statements.+stm.Goals as goal
 
 pub stm_in-split-requires : goal.stm_in-split-requires
@@ -155,3 +156,46 @@ match_arms_in-loop-tree-preserved t c =
     ∙ sym (three parts c.ctor-item.result c.payload-item.result c.body-item.result (omega arith) c.ctor-item.is c.payload-item.is c.body-item.is)) ∙ sym is)
     (both (is_name c.in_ok-name_in.field-0) (is_name c.in_ok-name_in-2.field-0 && is_formed_stm c.in_ok-stm_in.field-0) c.in_ok-name_in.ensures.1
     (both (is_name c.in_ok-name_in-2.field-0) (is_formed_stm c.in_ok-stm_in.field-0) c.in_ok-name_in-2.ensures.1 c.in_ok-stm_in.ensures.1))
+
+pub stm_in-let_in-requires : goal.stm_in-let_in-requires
+stm_in-let_in-requires t c =
+    let is = c.in-List.is ∙ ap variant.List (sym c.as_slice.ensures) in (
+      omega (arith, c.decreases, ap count_of is, count-List c.as_slice.result.now, behind_fewer _ _ _ c.split.ensures),
+      exact_parts sort.Statement (codes "let") (sort.Name ∷ sort.Statement ∷ sort.Statement ∷ []) _ refl (arm_fits sort.Statement (codes "let") _ _ _ c.split.ensures c.in-let.is (subst (FitsSort sort.Statement) is c.requires)),
+    )
+
+pub stm_in-seq_in-requires : goal.stm_in-seq_in-requires
+stm_in-seq_in-requires t c =
+    let is = c.in-List.is ∙ ap variant.List (sym c.as_slice.ensures) in (
+      omega (arith, c.decreases, ap count_of is, count-List c.as_slice.result.now, behind_fewer _ _ _ c.split.ensures),
+      many_parts sort.Statement (codes "seq") (sort.Statement ∷ []) sort.Statement _ refl (arm_fits sort.Statement (codes "seq") _ _ _ c.split.ensures c.in-seq.is (subst (FitsSort sort.Statement) is c.requires)),
+    )
+
+pub stm_in-if_in-requires : goal.stm_in-if_in-requires
+stm_in-if_in-requires t c =
+    let is = c.in-List.is ∙ ap variant.List (sym c.as_slice.ensures) in (
+      omega (arith, c.decreases, ap count_of is, count-List c.as_slice.result.now, behind_fewer _ _ _ c.split.ensures),
+      exact_parts sort.Statement (codes "if") (sort.Expression ∷ sort.Statement ∷ sort.Statement ∷ []) _ refl (arm_fits sort.Statement (codes "if") _ _ _ c.split.ensures c.in-if.is (subst (FitsSort sort.Statement) is c.requires)),
+    )
+
+pub stm_in-case_in-requires : goal.stm_in-case_in-requires
+stm_in-case_in-requires t c =
+    let is = c.in-List.is ∙ ap variant.List (sym c.as_slice.ensures) in (
+      omega (arith, c.decreases, ap count_of is, count-List c.as_slice.result.now, behind_fewer _ _ _ c.split.ensures),
+      many_parts sort.Statement (codes "case") (sort.Expression ∷ []) sort.CaseArm _ refl (arm_fits sort.Statement (codes "case") _ _ _ c.split.ensures c.in-case.is (subst (FitsSort sort.Statement) is c.requires)),
+    )
+
+pub stm_in-match_in-requires : goal.stm_in-match_in-requires
+stm_in-match_in-requires t c =
+    let is = c.in-List.is ∙ ap variant.List (sym c.as_slice.ensures) in (
+      omega (arith, c.decreases, ap count_of is, count-List c.as_slice.result.now, behind_fewer _ _ _ c.split.ensures),
+      many_parts sort.Statement (codes "match") (sort.Expression ∷ []) sort.MatchArm _ refl (arm_fits sort.Statement (codes "match") _ _ _ c.split.ensures c.in-match.is (subst (FitsSort sort.Statement) is c.requires)),
+    )
+
+pub stm_in-returns-in-fail : goal.stm_in-returns-in-fail
+stm_in-returns-in-fail t c =
+    let is = c.in-List.is ∙ ap variant.List (sym c.as_slice.ensures) in
+    let behind = c.split.result.1.now in
+    let has = exact_parts sort.Statement (codes "fail") [] behind refl (arm_fits sort.Statement (codes "fail") _ _ _ c.split.ensures c.in-fail.is (subst (FitsSort sort.Statement) is c.requires)) in
+    subst (λ v. IsStm v made.Fail) (ap (λ w. form w behind) (sym c.in-fail.is) ∙ ap variant.List c.split.ensures ∙ sym is)
+    (Fail-is behind (no_parts behind has.count))

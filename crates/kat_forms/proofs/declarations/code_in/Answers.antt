@@ -1,0 +1,15 @@
+use Rattle.std.proofs.Common.{◌-◌, ◌++◌, [], ◌∷◌, length, refl, ap, sym, subst, ◌∙◌, arith}
+use Rattle.std.specs.Prelude.{codes, take}
+use Rattle.std.specs.List.{AllByRecursion}
+use Rattle.kat_tree.specs.declared.tree.Tree.TheVariants as variant
+use Rattle.kat_ast.specs.Parts.{word}
+use Rattle.kat_shapes.specs.declared.sort.Sort.TheVariants as sort
+use Rattle.kat_forms.specs.Parts.{FitsSort}
+use Rattle.kat_forms.proofs.Lists.{rest_is}
+use Rattle.kat_forms.proofs.Fitting.{behind_first}
+use Rattle.kat_forms.proofs.declarations.code_in.Goals as goal
+
+pub numbers_in-requires : goal.numbers_in-requires
+numbers_in-requires c =
+    let parts = c.args.parts.now in
+    subst (AllByRecursion (FitsSort sort.Number)) (sym (rest_is parts 1)) (behind_first sort.Number (length parts - 2) parts c.requires)
