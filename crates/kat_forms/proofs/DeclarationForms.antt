@@ -1,5 +1,5 @@
 -- Declarations and their parts: what fits is one, form by form, and the tree of one fits.
-use Rattle.std.proofs.Common.{◌≡◌, ℕ, Bool, ◌+◌, ◌-◌, List, [], ◌∷◌, ◌++◌, ◌&&◌, length, take, map, true, false, Option, Some, None, refl, ap, sym, subst, ◌∙◌, arith, length-append}
+use Rattle.std.proofs.Common.{◌≡◌, ℕ, ◌+◌, ◌-◌, List, [], ◌∷◌, ◌++◌, length, take, map, true, Option, Some, None, refl, ap, sym, subst, ◌∙◌, arith, length-append}
 use Rattle.std.specs.Prelude.{codes, replicate}
 use Rattle.std.specs.List.{AllByRecursion}
 use Rattle.std.specs.Option.{option_and_then}
@@ -30,7 +30,7 @@ use Rattle.kat_ast.specs.Expressions.{tree_of_expr, is_formed_expr}
 use Rattle.kat_ast.specs.Statements.{tree_of_stm, is_formed_stm}
 use Rattle.kat_ast.specs.Assertions.{is_formed_assertion}
 use Rattle.kat_ast.specs.Declarations.{tree_of_phase, tree_of_when, word_of_register_kind, word_of_cells_kind, holding, tree_of_decl, is_formed_phase, is_formed_when, is_formed_decl}
-use Rattle.kat_shapes.specs.Forms.{Form, exactly, between, many, form_of, form_in, newest, row_of, words_of, is_since, declarations}
+use Rattle.kat_shapes.specs.Forms.{Form, exactly, between, many, form_in, newest, row_of, words_of, is_since, declarations}
 use Rattle.kat_shapes.specs.Fits.{fits}
 use Rattle.kat_ast.specs.Types.{tree_of_type, tree_of_params}
 use Rattle.kat_ast.specs.Assertions.{tree_of_assertion}

@@ -1,5 +1,5 @@
 -- Expressions: what fits is one, form by form, and the tree of one fits.
-use Rattle.std.proofs.Common.{◌≡◌, ℕ, Bool, ◌+◌, ◌-◌, ◌==◌, List, [], ◌∷◌, ◌++◌, ◌&&◌, ◌||◌, not, length, take, drop, map, true, false, if◌then◌else◌, Option, Some, None, refl, ap, sym, subst, ◌∙◌, arith, length-append}
+use Rattle.std.proofs.Common.{◌≡◌, ℕ, Bool, ◌+◌, ◌-◌, ◌==◌, List, [], ◌∷◌, ◌++◌, ◌&&◌, length, take, drop, map, true, false, if◌then◌else◌, Option, Some, None, refl, ap, sym, subst, ◌∙◌, arith}
 use Rattle.std.specs.Str.{bytes_eq}
 use Rattle.std.proofs.lemmas.Bool.{eqb-true, eq-eqb}
 use Rattle.std.proofs.lemmas.List.{length-map, length-replicate}
@@ -14,7 +14,6 @@ use Rattle.kat_tree.specs.declared.tree.Tree.TheFolds.{map-Tree, ind-Tree}
 use Rattle.kat_tree.specs.declared.tree.Token.TheVariants as token
 use Rattle.kat_tree.specs.declared.tree.Tree.{Tree}
 use Rattle.kat_tree.specs.declared.tree.Tree.TheVariants as variant
-use Rattle.kat_shapes.specs.declared.sort.Sort.{Sort}
 use Rattle.kat_shapes.specs.declared.sort.Sort.TheVariants as sort
 use Rattle.kat_value.specs.declared.op.Op.{Op}
 use Rattle.kat_value.specs.declared.op.Op.TheVariants as op
@@ -31,7 +30,7 @@ use Rattle.std.specs.Option.{option_and_then}
 use Rattle.kat_value.specs.Words.{arity_of, is_written}
 use Rattle.kat_ast.specs.Parts.{is_name, every}
 use Rattle.kat_ast.specs.Expressions.{expr_formed, is_formed_expr, are_formed_exprs}
-use Rattle.kat_shapes.specs.Forms.{Form, Rows, exactly, many, form_of, form_in, newest, row_of, expressions}
+use Rattle.kat_shapes.specs.Forms.{Form, Rows, exactly, form_of, form_in, newest, row_of, expressions}
 use Rattle.kat_shapes.specs.Fits.{fits}
 use Rattle.kat_forms.specs.Parts.{told_expressions, FitsSort, AllFit, HasParts, IsPlain}
 use Rattle.kat_forms.specs.Forms.{IsExpr, AreExprs}
@@ -452,74 +451,109 @@ list_rows : AllByRecursion (λ (row : List ℕ × Form). ListOf row.0 row.1) exp
 list_rows = (
   λ ps fit. bits-from ps (exact_parts sort.Expression (codes "bits") (sort.Number ∷ sort.Number ∷ []) (trees ps) refl fit),
   (
-  λ ps fit. of-from ps (exact_parts sort.Expression (codes "of") (sort.Name ∷ sort.Name ∷ []) (trees ps) refl fit),
-  (
-  λ ps fit. make-from ps (exact_parts sort.Expression (codes "make") (sort.Name ∷ sort.Expression ∷ []) (trees ps) refl fit),
-  (
-  λ ps fit. rec-from ps (many_parts sort.Expression (codes "rec") (sort.Name ∷ []) sort.Expression (trees ps) refl fit),
-  (
-  λ ps fit. register-from ps (exact_parts sort.Expression (codes "reg") (sort.Name ∷ []) (trees ps) refl fit),
-  (
-  λ ps fit. kept-from ps (exact_parts sort.Expression (codes "kept") (sort.Name ∷ []) (trees ps) refl fit),
-  (
-  λ ps fit. keptCell-from ps (exact_parts sort.Expression (codes "kept_cell") (sort.Number ∷ []) (trees ps) refl fit),
-  (
-  λ ps fit. before-from ps (exact_parts sort.Expression (codes "before") (sort.Name ∷ []) (trees ps) refl fit),
-  (
-  λ ps fit. after-from ps (exact_parts sort.Expression (codes "after") (sort.Name ∷ []) (trees ps) refl fit),
-  (
-  λ ps fit. beforeCell-from ps (exact_parts sort.Expression (codes "before_cell") (sort.Number ∷ []) (trees ps) refl fit),
-  (
-  λ ps fit. afterCell-from ps (exact_parts sort.Expression (codes "after_cell") (sort.Number ∷ []) (trees ps) refl fit),
-  (
-  λ ps fit. get-from ps (exact_parts sort.Expression (codes "get") (sort.Name ∷ sort.Name ∷ sort.Expression ∷ []) (trees ps) refl fit),
-  (
-  bare_list op.Not (record { word_is = refl; alone = refl; written = refl; formed = refl }),
-  (
-  bare_list op.And (record { word_is = refl; alone = refl; written = refl; formed = refl }),
-  (
-  bare_list op.Or (record { word_is = refl; alone = refl; written = refl; formed = refl }),
-  (
-  bare_list op.Eq (record { word_is = refl; alone = refl; written = refl; formed = refl }),
-  (
-  bare_list op.Ult (record { word_is = refl; alone = refl; written = refl; formed = refl }),
-  (
-  bare_list op.Ule (record { word_is = refl; alone = refl; written = refl; formed = refl }),
-  (
-  bare_list op.Slt (record { word_is = refl; alone = refl; written = refl; formed = refl }),
-  (
-  bare_list op.Sle (record { word_is = refl; alone = refl; written = refl; formed = refl }),
-  (
-  bare_list op.Add (record { word_is = refl; alone = refl; written = refl; formed = refl }),
-  (
-  bare_list op.Sub (record { word_is = refl; alone = refl; written = refl; formed = refl }),
-  (
-  bare_list op.Mul (record { word_is = refl; alone = refl; written = refl; formed = refl }),
-  (
-  bare_list op.Band (record { word_is = refl; alone = refl; written = refl; formed = refl }),
-  (
-  bare_list op.Bor (record { word_is = refl; alone = refl; written = refl; formed = refl }),
-  (
-  bare_list op.Bxor (record { word_is = refl; alone = refl; written = refl; formed = refl }),
-  (
-  bare_list op.Bnot (record { word_is = refl; alone = refl; written = refl; formed = refl }),
-  (
-  bare_list op.Shl (record { word_is = refl; alone = refl; written = refl; formed = refl }),
-  (
-  bare_list op.Shr (record { word_is = refl; alone = refl; written = refl; formed = refl }),
-  (
-  bare_list op.Sar (record { word_is = refl; alone = refl; written = refl; formed = refl }),
-  (
-  λ ps fit. slice-from ps (exact_parts sort.Expression (codes "slice") (sort.Number ∷ sort.Number ∷ sort.Expression ∷ []) (trees ps) refl fit),
-  (
-  bare_list op.Cat (record { word_is = refl; alone = refl; written = refl; formed = refl }),
-  (
-  λ ps fit. zext-from ps (exact_parts sort.Expression (codes "zext") (sort.Number ∷ sort.Expression ∷ []) (trees ps) refl fit),
-  (
-  λ ps fit. sext-from ps (exact_parts sort.Expression (codes "sext") (sort.Number ∷ sort.Expression ∷ []) (trees ps) refl fit),
-  (
-  bare_list op.Ite (record { word_is = refl; alone = refl; written = refl; formed = refl }),
-  tt)))))))))))))))))))))))))))))))))))
+    λ ps fit. of-from ps (exact_parts sort.Expression (codes "of") (sort.Name ∷ sort.Name ∷ []) (trees ps) refl fit),
+    (
+      λ ps fit. make-from ps (exact_parts sort.Expression (codes "make") (sort.Name ∷ sort.Expression ∷ []) (trees ps) refl fit),
+      (
+        λ ps fit. rec-from ps (many_parts sort.Expression (codes "rec") (sort.Name ∷ []) sort.Expression (trees ps) refl fit),
+        (
+          λ ps fit. register-from ps (exact_parts sort.Expression (codes "reg") (sort.Name ∷ []) (trees ps) refl fit),
+          (
+            λ ps fit. kept-from ps (exact_parts sort.Expression (codes "kept") (sort.Name ∷ []) (trees ps) refl fit),
+            (
+              λ ps fit. keptCell-from ps (exact_parts sort.Expression (codes "kept_cell") (sort.Number ∷ []) (trees ps) refl fit),
+              (
+                λ ps fit. before-from ps (exact_parts sort.Expression (codes "before") (sort.Name ∷ []) (trees ps) refl fit),
+                (
+                  λ ps fit. after-from ps (exact_parts sort.Expression (codes "after") (sort.Name ∷ []) (trees ps) refl fit),
+                  (
+                    λ ps fit. beforeCell-from ps (exact_parts sort.Expression (codes "before_cell") (sort.Number ∷ []) (trees ps) refl fit),
+                    (
+                      λ ps fit. afterCell-from ps (exact_parts sort.Expression (codes "after_cell") (sort.Number ∷ []) (trees ps) refl fit),
+                      (
+                        λ ps fit. get-from ps (exact_parts sort.Expression (codes "get") (sort.Name ∷ sort.Name ∷ sort.Expression ∷ []) (trees ps) refl fit),
+                        (
+                          bare_list op.Not (record { word_is = refl; alone = refl; written = refl; formed = refl }),
+                          (
+                            bare_list op.And (record { word_is = refl; alone = refl; written = refl; formed = refl }),
+                            (
+                              bare_list op.Or (record { word_is = refl; alone = refl; written = refl; formed = refl }),
+                              (
+                                bare_list op.Eq (record { word_is = refl; alone = refl; written = refl; formed = refl }),
+                                (
+                                  bare_list op.Ult (record { word_is = refl; alone = refl; written = refl; formed = refl }),
+                                  (
+                                    bare_list op.Ule (record { word_is = refl; alone = refl; written = refl; formed = refl }),
+                                    (
+                                      bare_list op.Slt (record { word_is = refl; alone = refl; written = refl; formed = refl }),
+                                      (
+                                        bare_list op.Sle (record { word_is = refl; alone = refl; written = refl; formed = refl }),
+                                        (
+                                          bare_list op.Add (record { word_is = refl; alone = refl; written = refl; formed = refl }),
+                                          (
+                                            bare_list op.Sub (record { word_is = refl; alone = refl; written = refl; formed = refl }),
+                                            (
+                                              bare_list op.Mul (record { word_is = refl; alone = refl; written = refl; formed = refl }),
+                                              (
+                                                bare_list op.Band (record { word_is = refl; alone = refl; written = refl; formed = refl }),
+                                                (
+                                                  bare_list op.Bor (record { word_is = refl; alone = refl; written = refl; formed = refl }),
+                                                  (
+                                                    bare_list op.Bxor (record { word_is = refl; alone = refl; written = refl; formed = refl }),
+                                                    (
+                                                      bare_list op.Bnot (record { word_is = refl; alone = refl; written = refl; formed = refl }),
+                                                      (
+                                                        bare_list op.Shl (record { word_is = refl; alone = refl; written = refl; formed = refl }),
+                                                        (
+                                                          bare_list op.Shr (record { word_is = refl; alone = refl; written = refl; formed = refl }),
+                                                          (
+                                                            bare_list op.Sar (record { word_is = refl; alone = refl; written = refl; formed = refl }),
+                                                            (
+                                                              λ ps fit. slice-from ps (exact_parts sort.Expression (codes "slice") (sort.Number ∷ sort.Number ∷ sort.Expression ∷ []) (trees ps) refl fit),
+                                                              (
+                                                                bare_list op.Cat (record { word_is = refl; alone = refl; written = refl; formed = refl }),
+                                                                (
+                                                                  λ ps fit. zext-from ps (exact_parts sort.Expression (codes "zext") (sort.Number ∷ sort.Expression ∷ []) (trees ps) refl fit),
+                                                                  (
+                                                                    λ ps fit. sext-from ps (exact_parts sort.Expression (codes "sext") (sort.Number ∷ sort.Expression ∷ []) (trees ps) refl fit),
+                                                                    (
+                                                                      bare_list op.Ite (record { word_is = refl; alone = refl; written = refl; formed = refl }),
+                                                                      tt,
+                                                                    ),
+                                                                  ),
+                                                                ),
+                                                              ),
+                                                            ),
+                                                          ),
+                                                        ),
+                                                      ),
+                                                    ),
+                                                  ),
+                                                ),
+                                              ),
+                                            ),
+                                          ),
+                                        ),
+                                      ),
+                                    ),
+                                  ),
+                                ),
+                              ),
+                            ),
+                          ),
+                        ),
+                      ),
+                    ),
+                  ),
+                ),
+              ),
+            ),
+          ),
+        ),
+      ),
+    ),
+  ),
+)
 
 list_by : (w : List ℕ) (ps : List Known) (found : Option Form) → row_of expressions w ≡ found → FitsSort sort.Expression (form w (trees ps)) →
     (x : Expr) × IsExpr (form w (trees ps)) x

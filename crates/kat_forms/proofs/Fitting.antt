@@ -15,13 +15,13 @@ use Rattle.kat_tree.specs.declared.tree.Tree.TheVariants.{rolls-Atom, rolls-List
 use Rattle.kat_tree.specs.declared.tree.Tree.TheOpen.{Tree-F}
 use Rattle.kat_tree.specs.declared.tree.Tree.TheViews.{roll-Tree, out-Tree, roll-out-Tree}
 use Rattle.kat_tree.specs.declared.tree.Tree.TheFolds.{fold-roll-Tree}
-use Rattle.kat_ast.specs.Parts.{word, number, form}
+use Rattle.kat_ast.specs.Parts.{word, form}
 use Rattle.kat_shapes.specs.declared.sort.Sort.{Sort}
 use Rattle.kat_shapes.specs.declared.sort.Sort.TheVariants as sort
-use Rattle.kat_shapes.specs.Forms.{Form, Rows, exactly, many, between, row_of, forms_of, form_in, form_of_word, form_of, middles, sorts_of, sorts_for, fits_token, newest}
+use Rattle.kat_shapes.specs.Forms.{Form, exactly, many, between, row_of, forms_of, form_in, form_of_word, form_of, middles, sorts_of, sorts_for, fits_token, newest}
 use Rattle.kat_shapes.specs.Fits.{Judged, first_word, all_fit, list_fits, judged_layer, judged}
 use Rattle.kat_forms.specs.Parts.{FitsSort, AllFit, HasParts, IsHeaded, IsHeadedList, IsHolder}
-use Rattle.kat_forms.proofs.Lists.{At, left_true, right_true, same_parts}
+use Rattle.kat_forms.proofs.Lists.{At, left_true, right_true}
 
 judged-Atom : (t : Token) → judged (variant.Atom t) ≡ judged_layer newest (Tree-F.Atom t)
 judged-Atom t = ap judged (sym (rolls-Atom t)) ∙ fold-roll-Tree Judged (judged_layer newest) (Tree-F.Atom t)

@@ -1,5 +1,5 @@
 -- Names, numbers, types, parameters, and lists of a word and one part: what fits is one, and the tree of one fits.
-use Rattle.std.proofs.Common.{◌≡◌, ℕ, Bool, ◌+◌, ◌-◌, List, [], ◌∷◌, ◌++◌, ◌&&◌, not, length, map, true, false, Option, Some, None, refl, ap, sym, subst, ◌∙◌, arith}
+use Rattle.std.proofs.Common.{◌≡◌, ℕ, Bool, ◌+◌, ◌-◌, List, [], ◌∷◌, ◌&&◌, not, length, map, true, false, Option, Some, None, refl, ap, sym, subst, ◌∙◌, arith}
 use Rattle.std.specs.Str.{bytes_eq}
 use Rattle.std.proofs.lemmas.List.{length-replicate}
 use Rattle.std.proofs.lemmas.Slice.Eq.{bytes_eq-Decides}
@@ -20,7 +20,7 @@ use Rattle.kat_shapes.specs.Forms.{exactly, many, form_of, newest}
 use Rattle.kat_shapes.specs.Fits.{fits}
 use Rattle.kat_forms.specs.Parts.{FitsSort, HasParts}
 use Rattle.kat_forms.specs.Forms.{IsName, IsType, IsParam, AreNames, AreParams}
-use Rattle.kat_forms.proofs.Fitting.{by_layer, token_fits, fits_of_token, form_fits, place_fits, many_sorts, all_of_one, no_list, exact_place, many_place, rest_fits, some_fit, HoldsOne, HasNoAtoms, held_list, held_part, is_list, list_holder}
+use Rattle.kat_forms.proofs.Fitting.{by_layer, token_fits, fits_of_token, form_fits, place_fits, many_sorts, all_of_one, no_list, exact_place, many_place, rest_fits, some_fit, HoldsOne, HasNoAtoms, held_list, is_list}
 use Rattle.kat_forms.proofs.Lists.{both, same2, same_first}
 
 -- two truths apart

@@ -1,5 +1,5 @@
 -- Statements: what fits is one, form by form, and the tree of one fits.
-use Rattle.std.proofs.Common.{◌≡◌, ℕ, Bool, ◌+◌, ◌-◌, List, [], ◌∷◌, ◌++◌, ◌&&◌, length, map, true, false, Option, Some, None, refl, ap, sym, subst, ◌∙◌, arith}
+use Rattle.std.proofs.Common.{◌≡◌, ℕ, Bool, ◌+◌, ◌-◌, List, [], ◌∷◌, ◌&&◌, length, map, true, Option, Some, None, refl, ap, sym, subst, ◌∙◌, arith}
 use Rattle.std.specs.Prelude.{codes, replicate}
 use Rattle.std.specs.List.{AllByRecursion}
 use Rattle.kat_tree.specs.declared.tree.Token.{Token}
@@ -9,10 +9,8 @@ use Rattle.kat_tree.specs.declared.tree.Tree.TheViews.{roll-Tree}
 use Rattle.kat_tree.specs.declared.tree.Tree.TheFolds.{map-Tree, ind-Tree}
 use Rattle.std.specs.Option.{option_and_then}
 use Rattle.std.proofs.lemmas.List.{length-replicate}
-use Rattle.kat_tree.specs.declared.tree.Token.TheVariants as token
 use Rattle.kat_tree.specs.declared.tree.Tree.{Tree}
 use Rattle.kat_tree.specs.declared.tree.Tree.TheVariants as variant
-use Rattle.kat_shapes.specs.declared.sort.Sort.{Sort}
 use Rattle.kat_shapes.specs.declared.sort.Sort.TheVariants as sort
 use Rattle.kat_ast.specs.declared.expr.Expr.{Expr}
 use Rattle.kat_ast.specs.declared.stm.Stm.{Stm}
@@ -26,10 +24,10 @@ use Rattle.kat_ast.specs.declared.stm.Stm.TheFolds.{map-Stm, fold-roll-Stm, ind-
 use Rattle.kat_ast.specs.Parts.{word, form, is_name, every, is_some}
 use Rattle.kat_ast.specs.Expressions.{tree_of_expr, is_formed_expr, are_formed_exprs}
 use Rattle.kat_ast.specs.Statements.{tree_of_case_arm, tree_of_match_arm, stm_tree, tree_of_stm, is_formed_case_arm, is_formed_match_arm, stm_formed, is_formed_stm}
-use Rattle.kat_shapes.specs.Forms.{Form, exactly, many, form_of, form_in, newest, row_of, statements}
+use Rattle.kat_shapes.specs.Forms.{Form, exactly, form_in, newest, row_of, statements}
 use Rattle.kat_shapes.specs.Fits.{fits}
 use Rattle.kat_forms.specs.Parts.{FitsSort, HasParts}
-use Rattle.kat_forms.specs.Forms.{IsStm, IsCaseArm, IsMatchArm, AreStms, AreCaseArms, AreMatchArms, case_tree, case_formed, match_tree, match_formed}
+use Rattle.kat_forms.specs.Forms.{IsStm, IsCaseArm, IsMatchArm, AreStms, AreCaseArms, AreMatchArms, case_formed, match_formed}
 use Rattle.kat_forms.proofs.Lists.{both, same1, same2, same3, same_first}
 use Rattle.kat_forms.proofs.Fitting.{form_fits, place_fits, no_form, no_atom, headed, exact_parts, many_parts, exact_place, rest_fits, some_fit}
 use Rattle.kat_forms.proofs.SmallForms.{apart, name_of, some_made, name_fits, named_many, headed_many}

@@ -1,7 +1,6 @@
 -- Which form of right form is written as which trees, kind by kind.
-use Rattle.std.specs.Prelude.{◌≡◌, Bool, true, ℕ, List, [], ◌∷◌, map}
+use Rattle.std.specs.Prelude.{◌≡◌, Bool, true, ℕ, List, map}
 use Rattle.kat_tree.specs.declared.tree.Tree.{Tree}
-use Rattle.kat_tree.specs.declared.tree.Tree.TheVariants as tree
 use Rattle.kat_ast.specs.declared.expr.Expr.{Expr}
 use Rattle.kat_ast.specs.declared.stm.Stm.{Stm}
 use Rattle.kat_ast.specs.declared.stm.CaseArm.{CaseArm}
@@ -13,7 +12,7 @@ use Rattle.kat_ast.specs.declared.type_name.Param.{Param}
 use Rattle.kat_ast.specs.declared.decl.Phase.{Phase}
 use Rattle.kat_ast.specs.declared.decl.When.{When}
 use Rattle.kat_ast.specs.declared.decl.DeclForm.{DeclForm}
-use Rattle.kat_ast.specs.Parts.{word, number, every, is_name}
+use Rattle.kat_ast.specs.Parts.{word, every, is_name}
 use Rattle.kat_ast.specs.Types.{tree_of_type, tree_of_param, is_formed_type, is_formed_param}
 use Rattle.kat_ast.specs.Expressions.{tree_of_expr, is_formed_expr}
 use Rattle.kat_ast.specs.Statements.{tree_of_case_arm, tree_of_match_arm, tree_of_stm, is_formed_case_arm, is_formed_match_arm, is_formed_stm}

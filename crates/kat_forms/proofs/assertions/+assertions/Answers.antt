@@ -1,8 +1,7 @@
 -- The parts of each form fit, and each part has fewer trees than the whole.
-use Rattle.std.proofs.Common.{◌≡◌, ◌-◌, [], ◌∷◌, length, map, refl, ap, sym, subst, ◌∙◌, arith}
+use Rattle.std.proofs.Common.{◌≡◌, ◌-◌, [], ◌∷◌, length, refl, ap, sym, subst, ◌∙◌, arith}
 use Rattle.std.specs.Prelude.{codes, replicate}
 use Rattle.kat_tree.specs.Preorder.{count_of}
-use Rattle.std.specs.List.{AllByRecursion}
 use Rattle.kat_tree.specs.declared.tree.Tree.TheVariants as variant
 use Rattle.kat_ast.specs.Assertions.{is_formed_assertion, tree_of_assertion}
 use Rattle.kat_shapes.specs.declared.sort.Sort.TheVariants as sort
@@ -80,5 +79,5 @@ exists_in-returns t c =
     let bound = c.in_ok-name.field-0 in
     subst (λ b. IsAssertion (form (codes "exists") parts) (made.Exists bound.name bound.ty b)) (sym c.in_ok-body.ensures)
     (Exists-is parts bound.name bound.ty c.in_ok-assertion_in.field-0
-        (same2 c.in_ok-name.ensures.0 c.in_ok-assertion_in.ensures.0 ∙ sym (two parts c.bound-item.result c.body-item.result c.requires.count c.bound-item.is c.body-item.is))
-        c.in_ok-name.ensures.1 c.in_ok-assertion_in.ensures.1)
+    (same2 c.in_ok-name.ensures.0 c.in_ok-assertion_in.ensures.0 ∙ sym (two parts c.bound-item.result c.body-item.result c.requires.count c.bound-item.is c.body-item.is))
+    c.in_ok-name.ensures.1 c.in_ok-assertion_in.ensures.1)

@@ -1,10 +1,8 @@
-use Rattle.std.proofs.Common.{◌-◌, ◌++◌, [], ◌∷◌, length, refl, ap, sym, subst, ◌∙◌, arith}
-use Rattle.std.specs.Prelude.{codes, take}
-use Rattle.std.specs.List.{AllByRecursion}
+use Rattle.std.proofs.Common.{[], ◌∷◌, ap, sym, ◌∙◌, arith}
+use Rattle.std.specs.Prelude.{codes}
 use Rattle.kat_tree.specs.declared.tree.Tree.TheVariants as variant
 use Rattle.kat_ast.specs.Parts.{word}
 use Rattle.kat_shapes.specs.declared.sort.Sort.TheVariants as sort
-use Rattle.kat_forms.specs.Parts.{FitsSort}
 use Rattle.kat_forms.proofs.Lists.{four, same4}
 use Rattle.kat_forms.proofs.Fitting.{held_part, holder, part_fits}
 use Rattle.kat_forms.proofs.SmallForms.{one_entry, one_within, one_change, no_entry, no_within, no_change}
@@ -37,8 +35,8 @@ returns c =
     let change = held_part sort.Change (codes "change") sort.Expression one_change c.part_of-3.ensures.0 c.change-item.result c.part_of-3.result.now c.part_of-3.ensures.1 (part_fits (sort.Name ∷ sort.Entry ∷ sort.Within ∷ sort.Change ∷ []) c.args.parts.now 3 c.change-item.result c.requires (omega arith) c.change-item.is) in
     Block-is parts c.in_ok-name_in.field-0 c.in_ok-assertion_in.field-0 c.number_in.result c.in_ok-expr_in.field-0
     (same4 c.in_ok-name_in.ensures.0
-        (ap (λ t. variant.List (word (codes "entry") ∷ t ∷ [])) c.in_ok-assertion_in.ensures.0 ∙ entry.0)
-        (ap (λ t. variant.List (word (codes "within") ∷ t ∷ [])) c.number_in.ensures ∙ within.0)
-        (ap (λ t. variant.List (word (codes "change") ∷ t ∷ [])) c.in_ok-expr_in.ensures.0 ∙ change.0)
-        ∙ sym (four parts c.name-item.result c.entry-item.result c.within-item.result c.change-item.result c.requires.count c.name-item.is c.entry-item.is c.within-item.is c.change-item.is))
+    (ap (λ t. variant.List (word (codes "entry") ∷ t ∷ [])) c.in_ok-assertion_in.ensures.0 ∙ entry.0)
+    (ap (λ t. variant.List (word (codes "within") ∷ t ∷ [])) c.number_in.ensures ∙ within.0)
+    (ap (λ t. variant.List (word (codes "change") ∷ t ∷ [])) c.in_ok-expr_in.ensures.0 ∙ change.0)
+    ∙ sym (four parts c.name-item.result c.entry-item.result c.within-item.result c.change-item.result c.requires.count c.name-item.is c.entry-item.is c.within-item.is c.change-item.is))
     c.in_ok-name_in.ensures.1 c.in_ok-assertion_in.ensures.1 c.in_ok-expr_in.ensures.1

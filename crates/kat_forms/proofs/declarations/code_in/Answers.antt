@@ -1,8 +1,5 @@
-use Rattle.std.proofs.Common.{◌-◌, ◌++◌, [], ◌∷◌, length, refl, ap, sym, subst, ◌∙◌, arith}
-use Rattle.std.specs.Prelude.{codes, take}
+use Rattle.std.proofs.Common.{◌-◌, length, sym, subst}
 use Rattle.std.specs.List.{AllByRecursion}
-use Rattle.kat_tree.specs.declared.tree.Tree.TheVariants as variant
-use Rattle.kat_ast.specs.Parts.{word}
 use Rattle.kat_shapes.specs.declared.sort.Sort.TheVariants as sort
 use Rattle.kat_forms.specs.Parts.{FitsSort}
 use Rattle.kat_forms.proofs.Lists.{rest_is}

@@ -1,10 +1,8 @@
-use Rattle.std.proofs.Common.{◌-◌, ◌++◌, [], ◌∷◌, length, refl, ap, sym, subst, ◌∙◌, arith}
-use Rattle.std.specs.Prelude.{codes, take}
-use Rattle.std.specs.List.{AllByRecursion}
+use Rattle.std.proofs.Common.{[], ◌∷◌, ap, sym, ◌∙◌, arith}
+use Rattle.std.specs.Prelude.{codes}
 use Rattle.kat_tree.specs.declared.tree.Tree.TheVariants as variant
 use Rattle.kat_ast.specs.Parts.{word}
 use Rattle.kat_shapes.specs.declared.sort.Sort.TheVariants as sort
-use Rattle.kat_forms.specs.Parts.{FitsSort}
 use Rattle.kat_forms.proofs.Lists.{five, same5}
 use Rattle.kat_forms.proofs.Fitting.{held_part, holder, part_fits}
 use Rattle.kat_forms.proofs.SmallForms.{one_res, no_res}
@@ -23,8 +21,8 @@ returns c =
     let res = held_part sort.Res (codes "res") sort.Name one_res c.part_of.ensures.0 c.res-item.result c.part_of.result.now c.part_of.ensures.1 (part_fits (sort.Name ∷ sort.Params ∷ sort.Pre ∷ sort.Res ∷ sort.Post ∷ []) c.args.parts.now 3 c.res-item.result c.requires (omega arith) c.res-item.is) in
     Contract-is parts c.in_ok-name_in.field-0 c.in_ok-params_in.field-0 c.in_ok-pre.pre c.in_ok-name_in-2.field-0 c.in_ok-pre.post
     (same5 c.in_ok-name_in.ensures.0 c.in_ok-params_in.ensures.0 c.in_ok-pre.ensures.0.0
-        (ap (λ t. variant.List (word (codes "res") ∷ t ∷ [])) c.in_ok-name_in-2.ensures.0 ∙ res.0)
-        c.in_ok-pre.ensures.1.0
-        ∙ sym (five parts c.function-item.result c.names-item.result c.pre-item.result c.res-item.result c.post-item.result c.requires.count
-            c.function-item.is c.names-item.is c.pre-item.is c.res-item.is c.post-item.is))
+    (ap (λ t. variant.List (word (codes "res") ∷ t ∷ [])) c.in_ok-name_in-2.ensures.0 ∙ res.0)
+    c.in_ok-pre.ensures.1.0
+    ∙ sym (five parts c.function-item.result c.names-item.result c.pre-item.result c.res-item.result c.post-item.result c.requires.count
+    c.function-item.is c.names-item.is c.pre-item.is c.res-item.is c.post-item.is))
     c.in_ok-name_in.ensures.1 c.in_ok-params_in.ensures.1 c.in_ok-pre.ensures.0.1 c.in_ok-name_in-2.ensures.1 c.in_ok-pre.ensures.1.1

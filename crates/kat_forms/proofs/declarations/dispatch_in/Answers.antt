@@ -1,11 +1,9 @@
-use Rattle.std.proofs.Common.{◌-◌, ◌++◌, [], ◌∷◌, length, refl, ap, sym, subst, ◌∙◌, arith}
+use Rattle.std.proofs.Common.{◌-◌, ◌++◌, [], ◌∷◌, length, ap, ◌∙◌, arith}
 use Rattle.std.specs.Prelude.{codes, take}
-use Rattle.std.specs.List.{AllByRecursion}
 use Rattle.kat_tree.specs.declared.tree.Tree.TheVariants as variant
 use Rattle.kat_ast.specs.Parts.{word, form}
 use Rattle.kat_ast.specs.Declarations.{tree_of_phase}
 use Rattle.kat_shapes.specs.declared.sort.Sort.TheVariants as sort
-use Rattle.kat_forms.specs.Parts.{FitsSort}
 use Rattle.kat_forms.proofs.Lists.{with_last}
 use Rattle.kat_forms.proofs.Fitting.{before_fits, held_part, holder, last_fits}
 use Rattle.kat_forms.proofs.SmallForms.{one_else, no_else}
@@ -27,6 +25,6 @@ returns c =
     let otherwise = held_part sort.Else (codes "else") sort.Phase one_else c.part_of.ensures.0 c.otherwise-item.result c.part_of.result.now c.part_of.ensures.1 (last_fits sort.When sort.Else (length c.args.parts.now - 1) c.args.parts.now c.otherwise-item.result c.requires c.otherwise-item.is) in
     Dispatch-is parts c.in_ok-whens_in.field-0 c.in_ok-phase_in.field-0
     (ap (λ ts. ts ++ form (codes "else") (tree_of_phase c.in_ok-phase_in.field-0 ∷ []) ∷ []) c.in_ok-whens_in.ensures.0
-        ∙ ap (λ t. take (length parts - 1) parts ++ t ∷ []) (ap (λ t. variant.List (word (codes "else") ∷ t ∷ [])) c.in_ok-phase_in.ensures.0 ∙ otherwise.0)
-        ∙ with_last parts (length parts - 1) c.otherwise-item.result (omega (arith, c.in-len1-up.len_at_least)) c.otherwise-item.is)
+    ∙ ap (λ t. take (length parts - 1) parts ++ t ∷ []) (ap (λ t. variant.List (word (codes "else") ∷ t ∷ [])) c.in_ok-phase_in.ensures.0 ∙ otherwise.0)
+    ∙ with_last parts (length parts - 1) c.otherwise-item.result (omega (arith, c.in-len1-up.len_at_least)) c.otherwise-item.is)
     c.in_ok-whens_in.ensures.1 c.in_ok-phase_in.ensures.1

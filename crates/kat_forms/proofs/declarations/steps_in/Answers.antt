@@ -1,6 +1,5 @@
-use Rattle.std.proofs.Common.{◌-◌, ◌++◌, [], ◌∷◌, length, map, refl, ap, sym, subst, ◌∙◌, arith}
+use Rattle.std.proofs.Common.{◌-◌, [], length, refl, ap, ◌∙◌}
 use Rattle.std.specs.Prelude.{codes}
-use Rattle.kat_tree.specs.declared.tree.Tree.TheVariants as variant
 use Rattle.kat_shapes.specs.declared.sort.Sort.TheVariants as sort
 use Rattle.kat_ast.specs.Parts.{form}
 use Rattle.std.proofs.lemmas.Result.{IfOk-weaker}

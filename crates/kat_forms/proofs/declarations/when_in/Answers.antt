@@ -1,6 +1,5 @@
-use Rattle.std.proofs.Common.{◌-◌, ◌++◌, [], ◌∷◌, length, map, refl, ap, sym, subst, ◌∙◌, arith}
+use Rattle.std.proofs.Common.{[], ◌∷◌, refl, sym, subst, ◌∙◌, arith}
 use Rattle.std.specs.Prelude.{codes}
-use Rattle.kat_tree.specs.declared.tree.Tree.TheVariants as variant
 use Rattle.kat_shapes.specs.declared.sort.Sort.TheVariants as sort
 use Rattle.kat_forms.specs.Forms.{IsWhen}
 use Rattle.kat_forms.proofs.Lists.{same2, two}
@@ -25,5 +24,5 @@ returns c =
     let has = exact_parts sort.When (codes "when") (sort.Expression ∷ sort.Phase ∷ []) parts refl found.1 in
     subst (λ v. IsWhen v (record { test = c.in_ok-expr_in.field-0; phase = c.in_ok-phase_in.field-0 })) found.0
     (When-is parts c.in_ok-expr_in.field-0 c.in_ok-phase_in.field-0
-        (same2 c.in_ok-expr_in.ensures.0 c.in_ok-phase_in.ensures.0 ∙ sym (two parts c.test-item.result c.phase-item.result has.count c.test-item.is c.phase-item.is))
-        c.in_ok-expr_in.ensures.1 c.in_ok-phase_in.ensures.1)
+    (same2 c.in_ok-expr_in.ensures.0 c.in_ok-phase_in.ensures.0 ∙ sym (two parts c.test-item.result c.phase-item.result has.count c.test-item.is c.phase-item.is))
+    c.in_ok-expr_in.ensures.1 c.in_ok-phase_in.ensures.1)

@@ -1,6 +1,6 @@
 -- The word begins an operation: nothing else has these parts.
 use Rattle.std.proofs.Common.{sym, ◌∙◌}
-use Rattle.kat_forms.proofs.ExpressionForms.{bare_found, no_row, plain_op, row_wanted}
+use Rattle.kat_forms.proofs.ExpressionForms.{bare_found, plain_op}
 use Rattle.kat_forms.proofs.expressions.plain_op.Goals as goal
 
 pub returns-clause-named : goal.returns-clause-named

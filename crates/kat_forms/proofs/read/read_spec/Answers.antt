@@ -1,4 +1,3 @@
-use Rattle.kat_tree.specs.declared.tree.Tree.TheVariants as variant
 use Rattle.kat_ast.specs.Specifications.{Describes}
 use Rattle.kat_shapes.specs.declared.sort.Sort.TheVariants as sort
 use Rattle.kat_forms.proofs.SpecificationForms.{text_of_parts, gives, gives_misfit, same_spec}

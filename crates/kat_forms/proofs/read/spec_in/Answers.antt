@@ -23,4 +23,4 @@ returns c =
     let is = c.in-List.is ∙ ap variant.List (sym c.as_slice.ensures) in
     subst (Describes c.args.tree.now) (sym c.new.ensures)
     (spec_made c.args.tree.now c.as_slice.result.now c.in_ok-decls_in.field-0 is (subst (FitsSort sort.Spec) is c.requires.fits)
-        c.in_ok-decls_in.ensures.0 c.in_ok-decls_in.ensures.1)
+    c.in_ok-decls_in.ensures.0 c.in_ok-decls_in.ensures.1)

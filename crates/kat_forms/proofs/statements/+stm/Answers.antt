@@ -1,5 +1,5 @@
 -- The parts of each form fit, and each part has fewer trees than the whole.
-use Rattle.std.proofs.Common.{◌-◌, ◌&&◌, [], ◌∷◌, length, take, drop, map, refl, ap, sym, subst, ◌∙◌, arith}
+use Rattle.std.proofs.Common.{◌-◌, ◌&&◌, [], ◌∷◌, length, take, drop, refl, ap, sym, subst, ◌∙◌, arith}
 use Rattle.std.specs.Prelude.{codes}
 use Rattle.std.specs.List.{AllByRecursion}
 use Rattle.std.proofs.lemmas.List.{length-replicate}
