@@ -1,5 +1,5 @@
 -- What a job does with its inputs is one answer, whose status is none of a file.
-use Rattle.std.proofs.Common.{◌≡◌, List, Option, None, Some, refl, ap, sym, subst, ◌∙◌}
+use Rattle.std.proofs.Common.{◌≡◌, List, [], ◌∷◌, Option, None, Some, refl, ap, sym, subst, ◌∙◌}
 use Rattle.kat_ast.specs.Spec.{Spec}
 use Rattle.kat_syntax.specs.Machine.{MachineState}
 use Rattle.kat_syntax.specs.Run.{RunEnd, Ended, OutIn, FailedIn}

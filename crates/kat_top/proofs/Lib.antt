@@ -6,6 +6,7 @@ pub mod Following
 pub mod Judged
 pub mod Loaded
 pub mod Machines
+pub mod Misfits
 pub mod Outside
 pub mod Owed
 pub mod Rows

@@ -1,6 +1,7 @@
 use Rattle.std.proofs.Common.{ap, arith}
 use Rattle.kat_tree.specs.Preorder.{count_of}
 use Rattle.kat_top.proofs.Trees.{small_parts}
+use Rattle.kat_top.proofs.Misfits.{misfit_comes}
 use Rattle.kat_top.proofs.inputs.spec_of.Goals as goal
 
 pub read_spec-requires-clause-small : goal.read_spec-requires-clause-small
@@ -9,3 +10,8 @@ read_spec-requires-clause-small c = λ parts is.
     let same = ap count_of is in
     let whole = c.places.ensures.count parts in
     small_parts parts (omega arith)
+
+pub returns-in-Ok : goal.returns-in-Ok
+returns-in-Ok c = λ earlier.
+    misfit_comes earlier c.args.text.now c.in-Ok.tree c.in-Err-read_spec.error c.of_form.result c.of_form.ensures c.in-Ok.ensures.found
+    c.in-Err-read_spec.ensures.refused
