@@ -19,21 +19,13 @@ use Rattle.kat_ast.proofs.Decoded.{decoded, assertion_by, word_back, assertion_f
 use Rattle.kat_ast.proofs.Expressions.{expr_back, exprs_back, expr_counted, exprs_counted}
 use Rattle.kat_ast.proofs.Types.{param_back, type_counted}
 use Rattle.kat_ast.proofs.Counting.{of_word, of_form, of_one, of_two, of_three, of_more, of_pair}
+use Rattle.kat_ast.proofs.SideBySide.{parts_back, parts_counted}
 
 abbrev IsBack : Assertion → Type 0
 IsBack a = is_formed_assertion a ≡ true → (decoded (tree_of_assertion a)).assertion ≡ a
 
 abbrev KnownBack : Type 0
 KnownBack = (a : Assertion) × IsBack a
-
-parts_back : (parts : List KnownBack) → every (map is_formed_assertion (map (λ e. e.0) parts)) ≡ true →
-    map (λ d. d.assertion) (map decoded (map tree_of_assertion (map (λ e. e.0) parts))) ≡ map (λ e. e.0) parts
-parts_back [] formed = refl
-parts_back (p ∷ ps) formed =
-    let both = and_parts (is_formed_assertion p.0) (every (map is_formed_assertion (map (λ e. e.0) ps))) formed in
-    let here = p.1 both.0 in
-    let more = parts_back ps both.1 in
-    cc
 
 layer_back : (y : Assertion-F KnownBack) → assertion_formed (map-Assertion Assertion Bool is_formed_assertion (map-Assertion KnownBack Assertion (λ e. e.0) y)) ≡ true →
     (decoded (assertion_tree (map-Assertion Assertion Tree tree_of_assertion (map-Assertion KnownBack Assertion (λ e. e.0) y)))).assertion
@@ -47,7 +39,7 @@ layer_back (Cell index e) formed =
     let both = and_parts (is_formed_expr index) (is_formed_expr e) formed in
     cc (assertion_form (codes "cell") (tree_of_expr index ∷ tree_of_expr e ∷ []), expr_back index both.0, expr_back e both.1)
 layer_back (Star parts) formed =
-    assertion_form (codes "star") (map tree_of_assertion (map (λ e. e.0) parts)) ∙ ap (λ ps. roll-Assertion (Star ps)) (parts_back parts formed)
+    assertion_form (codes "star") (map tree_of_assertion (map (λ e. e.0) parts)) ∙ ap (λ ps. roll-Assertion (Star ps)) (parts_back is_formed_assertion tree_of_assertion (λ d. d.assertion) parts formed)
 layer_back (If e a b) formed =
     let parts = and_parts (is_formed_expr e) (is_formed_assertion a.0 && is_formed_assertion b.0) formed in
     let more = and_parts (is_formed_assertion a.0) (is_formed_assertion b.0) parts.1 in
@@ -84,17 +76,13 @@ IsCounted a = trees_of_assertion a ≡ count_of (tree_of_assertion a)
 abbrev KnownCount : Type 0
 KnownCount = (a : Assertion) × IsCounted a
 
-parts_counted : (parts : List KnownCount) → map trees_of_assertion (map (λ e. e.0) parts) ≡ map count_of (map tree_of_assertion (map (λ e. e.0) parts))
-parts_counted [] = refl
-parts_counted (p ∷ ps) = let here = p.1 in let more = parts_counted ps in cc
-
 layer_counted : (y : Assertion-F KnownCount) →
     assertion_trees (map-Assertion Assertion ℕ trees_of_assertion (map-Assertion KnownCount Assertion (λ e. e.0) y))
     ≡ count_of (assertion_tree (map-Assertion Assertion Tree tree_of_assertion (map-Assertion KnownCount Assertion (λ e. e.0) y)))
 layer_counted (Pure e) = omega (arith, of_one (codes "pure") (tree_of_expr e), expr_counted e)
 layer_counted (Register r e) = omega (arith, of_two (codes "reg") (word r) (tree_of_expr e), of_word r, expr_counted e)
 layer_counted (Cell index e) = omega (arith, of_two (codes "cell") (tree_of_expr index) (tree_of_expr e), expr_counted index, expr_counted e)
-layer_counted (Star parts) = omega (arith, of_form (codes "star") (map tree_of_assertion (map (λ e. e.0) parts)), ap sum (parts_counted parts))
+layer_counted (Star parts) = omega (arith, of_form (codes "star") (map tree_of_assertion (map (λ e. e.0) parts)), ap sum (parts_counted trees_of_assertion tree_of_assertion parts))
 layer_counted (If e a b) = omega (arith, of_three (codes "if") (tree_of_expr e) (tree_of_assertion a.0) (tree_of_assertion b.0), expr_counted e, a.1, b.1)
 layer_counted (Exists x type body) =
     omega (

@@ -17,7 +17,7 @@ use Rattle.kat_ast.specs.declared.decl.Phase.TheVariants as p
 use Rattle.kat_ast.specs.declared.decl.When.{When}
 use Rattle.kat_ast.specs.declared.decl.DeclForm.{DeclForm}
 use Rattle.kat_ast.specs.declared.decl.DeclForm.TheVariants as d
-use Rattle.kat_ast.specs.Parts.{word, number, form, is_name, every, is_some}
+use Rattle.kat_ast.specs.Parts.{word, number, form, is_name, every, is_nonempty}
 use Rattle.kat_ast.specs.Types.{tree_of_type, tree_of_params, is_formed_type, are_formed_params}
 use Rattle.kat_ast.specs.Expressions.{tree_of_expr, is_formed_expr}
 use Rattle.kat_ast.specs.Statements.{tree_of_stm, is_formed_stm}
@@ -100,12 +100,12 @@ unfolding decl_by
 decl_back (d.Enum x members) formed =
     cc (decl_form (codes "enum") (word x ∷ tree.List (map word members) ∷ []), word_back x, members_back members)
 decl_back (d.Union x ctors) formed =
-    let parts = and_parts (is_name x) (is_some ctors && are_formed_params ctors) formed in
-    let more = and_parts (is_some ctors) (are_formed_params ctors) parts.1 in
+    let parts = and_parts (is_name x) (is_nonempty ctors && are_formed_params ctors) formed in
+    let more = and_parts (is_nonempty ctors) (are_formed_params ctors) parts.1 in
     cc (decl_form (codes "union") (word x ∷ tree_of_params ctors ∷ []), word_back x, params_back ctors more.1)
 decl_back (d.Record x fields) formed =
-    let parts = and_parts (is_name x) (is_some fields && are_formed_params fields) formed in
-    let more = and_parts (is_some fields) (are_formed_params fields) parts.1 in
+    let parts = and_parts (is_name x) (is_nonempty fields && are_formed_params fields) formed in
+    let more = and_parts (is_nonempty fields) (are_formed_params fields) parts.1 in
     cc (decl_form (codes "record") (word x ∷ tree_of_params fields ∷ []), word_back x, params_back fields more.1)
 decl_back (d.Register x type kind) formed =
     let both = and_parts (is_name x) (is_formed_type type) formed in

@@ -17,6 +17,7 @@ use Rattle.kat_ast.specs.Laws.{IsToldByTree}
 use Rattle.kat_ast.proofs.Decoded.{decoded, applied_by, expr_by, expr_named, word_back, number_back, named_expr, expr_form}
 use Rattle.kat_ast.proofs.Types.{denied}
 use Rattle.kat_ast.proofs.Counting.{sum-cons, sum_by-map, of_word, of_number, of_form, of_one, of_two, of_three, of_more}
+use Rattle.kat_ast.proofs.SideBySide.{parts_back, parts_counted}
 
 name_back : (x : List ℕ) → is_name x ≡ true → expr_named x ≡ roll-Expr (Name x)
 unfolding expr_named
@@ -33,15 +34,6 @@ IsBack e = is_formed_expr e ≡ true → (decoded (tree_of_expr e)).expr ≡ e
 
 abbrev whole : ((e : Expr) × IsBack e) → Expr
 whole e = e.0
-
-parts_back : (parts : List ((e : Expr) × IsBack e)) → every (map is_formed_expr (map (λ e. e.0) parts)) ≡ true →
-    map (λ d. d.expr) (map decoded (map tree_of_expr (map (λ e. e.0) parts))) ≡ map (λ e. e.0) parts
-parts_back [] formed = refl
-parts_back (p ∷ ps) formed =
-    let both = and_parts (is_formed_expr p.0) (every (map is_formed_expr (map (λ e. e.0) ps))) formed in
-    let here = p.1 both.0 in
-    let more = parts_back ps both.1 in
-    cc
 
 apply_back : (o : Op) (args : List Tree) → is_written o ≡ true →
     (decoded (form (word_of_op o) (numbers_before o ++ args))).expr ≡ roll-Expr (Apply o (map (λ d. d.expr) (map decoded args)))
@@ -93,7 +85,7 @@ layer_back (Make k payload) formed =
 layer_back (Rec r fields) formed =
     let parts = and_parts (is_name r) (every (map is_formed_expr (map (λ e. e.0) fields))) formed in
     expr_form (codes "rec") (word r ∷ map tree_of_expr (map (λ e. e.0) fields))
-    ∙ ap₂ (λ x es. roll-Expr (Rec x es)) (word_back r) (parts_back fields parts.1)
+    ∙ ap₂ (λ x es. roll-Expr (Rec x es)) (word_back r) (parts_back is_formed_expr tree_of_expr (λ d. d.expr) fields parts.1)
 layer_back (Register x) formed = cc (expr_form (codes "reg") (word x ∷ []), word_back x)
 layer_back (Kept x) formed = cc (expr_form (codes "kept") (word x ∷ []), word_back x)
 layer_back (Before x) formed = cc (expr_form (codes "before") (word x ∷ []), word_back x)
@@ -104,7 +96,7 @@ layer_back (AfterCell x) formed = cc (expr_form (codes "after_cell") (number x �
 layer_back (Apply o args) formed =
     let parts = and_parts (is_written o) ((length (map is_formed_expr (map (λ e. e.0) args)) == arity_of o) && every (map is_formed_expr (map (λ e. e.0) args))) formed in
     let more = and_parts (length (map is_formed_expr (map (λ e. e.0) args)) == arity_of o) (every (map is_formed_expr (map (λ e. e.0) args))) parts.1 in
-    apply_back o (map tree_of_expr (map (λ e. e.0) args)) parts.0 ∙ ap (λ es. roll-Expr (Apply o es)) (parts_back args more.1)
+    apply_back o (map tree_of_expr (map (λ e. e.0) args)) parts.0 ∙ ap (λ es. roll-Expr (Apply o es)) (parts_back is_formed_expr tree_of_expr (λ d. d.expr) args more.1)
 layer_back (Get r f value) formed =
     let parts = and_parts (is_name r) (is_name f && is_formed_expr value.0) formed in
     let more = and_parts (is_name f) (is_formed_expr value.0) parts.1 in
@@ -135,10 +127,6 @@ IsCounted e = trees_of_expr e ≡ count_of (tree_of_expr e)
 abbrev KnownCount : Type 0
 KnownCount = (e : Expr) × IsCounted e
 
-parts_counted : (parts : List KnownCount) → map trees_of_expr (map (λ e. e.0) parts) ≡ map count_of (map tree_of_expr (map (λ e. e.0) parts))
-parts_counted [] = refl
-parts_counted (p ∷ ps) = let here = p.1 in let more = parts_counted ps in cc
-
 numbers_counted : (ns : List ℕ) (trees : List Tree) → sum (map count_of (map number ns ++ trees)) ≡ length ns + sum (map count_of trees)
 numbers_counted [] trees = omega arith
 numbers_counted (n ∷ ns) trees = omega (arith, sum-cons (count_of (number n)) (map count_of (map number ns ++ trees)), of_number n, numbers_counted ns trees)
@@ -153,7 +141,7 @@ layer_counted (Bits w n) = omega (arith, of_two (codes "bits") (number w) (numbe
 layer_counted (Of e a) = omega (arith, of_two (codes "of") (word e) (word a), of_word e, of_word a)
 layer_counted (Make k payload) = omega (arith, of_two (codes "make") (word k) (tree_of_expr payload.0), of_word k, payload.1)
 layer_counted (Rec r fields) =
-    omega (arith, of_more (codes "rec") (word r) (map tree_of_expr (map (λ e. e.0) fields)), of_word r, ap sum (parts_counted fields))
+    omega (arith, of_more (codes "rec") (word r) (map tree_of_expr (map (λ e. e.0) fields)), of_word r, ap sum (parts_counted trees_of_expr tree_of_expr fields))
 layer_counted (Register r) = omega (arith, of_one (codes "reg") (word r), of_word r)
 layer_counted (Kept r) = omega (arith, of_one (codes "kept") (word r), of_word r)
 layer_counted (KeptCell i) = omega (arith, of_one (codes "kept_cell") (number i), of_number i)
@@ -163,7 +151,7 @@ layer_counted (BeforeCell i) = omega (arith, of_one (codes "before_cell") (numbe
 layer_counted (AfterCell i) = omega (arith, of_one (codes "after_cell") (number i), of_number i)
 layer_counted (Apply o args) =
     let trees = map tree_of_expr (map (λ e. e.0) args) in
-    omega (arith, of_form (word_of_op o) (numbers_before o ++ trees), numbers_counted (numbers_of_op o) trees, ap sum (parts_counted args))
+    omega (arith, of_form (word_of_op o) (numbers_before o ++ trees), numbers_counted (numbers_of_op o) trees, ap sum (parts_counted trees_of_expr tree_of_expr args))
 layer_counted (Get r f value) = omega (arith, of_three (codes "get") (word r) (word f) (tree_of_expr value.0), of_word r, of_word f, value.1)
 
 pub expr_counted : (e : Expr) → trees_of_expr e ≡ count_of (tree_of_expr e)
@@ -177,4 +165,4 @@ each_counted [] = refl
 each_counted (e ∷ es) = let here = expr_counted e in let more = each_counted es in cc
 
 pub exprs_counted : (es : List Expr) → trees_of_exprs es ≡ sum (map count_of (map tree_of_expr es))
-exprs_counted es = sum_by-map trees_of_expr es ∙ ap sum (each_counted es)
+exprs_counted es = ap sum (each_counted es)

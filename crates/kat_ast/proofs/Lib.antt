@@ -1,5 +1,6 @@
 pub mod Decoded
 pub mod Counting
+pub mod SideBySide
 pub mod Types
 pub mod Expressions
 pub mod Statements

@@ -12,28 +12,20 @@ use Rattle.kat_ast.specs.declared.stm.Stm.TheShapes.{former-Stm-Case-1-at-2 as c
 use Rattle.kat_ast.specs.declared.stm.Stm.TheOpen.{Stm-F, Ret, Let, Seq, If, Case, Match, Read, Write, Load, Store, Call, Check, Fail, Open, Close, Lemma}
 use Rattle.kat_ast.specs.declared.stm.Stm.TheViews.{roll-Stm}
 use Rattle.kat_ast.specs.declared.stm.Stm.TheFolds.{map-Stm, fold-roll-Stm, ind-Stm}
-use Rattle.kat_ast.specs.Parts.{word, is_name, every, is_some}
+use Rattle.kat_ast.specs.Parts.{word, is_name, every, is_nonempty}
 use Rattle.kat_ast.specs.Expressions.{tree_of_expr, is_formed_expr, are_formed_exprs}
 use Rattle.kat_ast.specs.Statements.{tree_of_case_arm, tree_of_match_arm, stm_tree, tree_of_stm, is_formed_case_arm, is_formed_match_arm, stm_formed, is_formed_stm, trees_of_case_arm, trees_of_match_arm, stm_trees, trees_of_stm}
 use Rattle.kat_ast.specs.Laws.{IsToldByTree}
 use Rattle.kat_ast.proofs.Decoded.{decoded, decoded-List, stm_by, word_back, stm_form}
 use Rattle.kat_ast.proofs.Expressions.{expr_back, exprs_back, expr_counted, exprs_counted}
 use Rattle.kat_ast.proofs.Counting.{sum-cons, sum_by-map, of_word, of_form, of_one, of_two, of_three, of_more, of_pair, of_triple}
+use Rattle.kat_ast.proofs.SideBySide.{parts_back, parts_counted}
 
 abbrev IsBack : Stm → Type 0
 IsBack s = is_formed_stm s ≡ true → (decoded (tree_of_stm s)).stm ≡ s
 
 abbrev KnownBack : Type 0
 KnownBack = (s : Stm) × IsBack s
-
-parts_back : (parts : List KnownBack) → every (map is_formed_stm (map (λ e. e.0) parts)) ≡ true →
-    map (λ d. d.stm) (map decoded (map tree_of_stm (map (λ e. e.0) parts))) ≡ map (λ e. e.0) parts
-parts_back [] formed = refl
-parts_back (p ∷ ps) formed =
-    let both = and_parts (is_formed_stm p.0) (every (map is_formed_stm (map (λ e. e.0) ps))) formed in
-    let here = p.1 both.0 in
-    let more = parts_back ps both.1 in
-    cc
 
 case_arm_back : (member : List ℕ) (body : Stm) → (decoded (tree_of_stm body)).stm ≡ body →
     (decoded (tree_of_case_arm (record { member = member; body = tree_of_stm body }))).case_arm ≡ record { member = member; body = body }
@@ -86,8 +78,8 @@ layer_back (Let x a b) formed =
     let more = and_parts (is_formed_stm a.0) (is_formed_stm b.0) parts.1 in
     cc (stm_form (codes "let") (word x ∷ tree_of_stm a.0 ∷ tree_of_stm b.0 ∷ []), word_back x, a.1 more.0, b.1 more.1)
 layer_back (Seq parts) formed =
-    let both = and_parts (is_some (map is_formed_stm (map (λ e. e.0) parts))) (every (map is_formed_stm (map (λ e. e.0) parts))) formed in
-    stm_form (codes "seq") (map tree_of_stm (map (λ e. e.0) parts)) ∙ ap (λ ss. roll-Stm (Seq ss)) (parts_back parts both.1)
+    let both = and_parts (is_nonempty (map is_formed_stm (map (λ e. e.0) parts))) (every (map is_formed_stm (map (λ e. e.0) parts))) formed in
+    stm_form (codes "seq") (map tree_of_stm (map (λ e. e.0) parts)) ∙ ap (λ ss. roll-Stm (Seq ss)) (parts_back is_formed_stm tree_of_stm (λ d. d.stm) parts both.1)
 layer_back (If e a b) formed =
     let parts = and_parts (is_formed_expr e) (is_formed_stm a.0 && is_formed_stm b.0) formed in
     let more = and_parts (is_formed_stm a.0) (is_formed_stm b.0) parts.1 in
@@ -152,10 +144,6 @@ IsCounted s = trees_of_stm s ≡ count_of (tree_of_stm s)
 abbrev KnownCount : Type 0
 KnownCount = (s : Stm) × IsCounted s
 
-parts_counted : (parts : List KnownCount) → map trees_of_stm (map (λ e. e.0) parts) ≡ map count_of (map tree_of_stm (map (λ e. e.0) parts))
-parts_counted [] = refl
-parts_counted (p ∷ ps) = let here = p.1 in let more = parts_counted ps in cc
-
 abbrev case_arms : List (CaseArm KnownCount) → List (CaseArm Stm)
 case_arms arms = map (case_arm.map KnownCount Stm (λ e. e.0)) arms
 
@@ -203,7 +191,7 @@ layer_counted : (y : Stm-F KnownCount) →
     stm_trees (map-Stm Stm ℕ trees_of_stm (map-Stm KnownCount Stm (λ e. e.0) y)) ≡ count_of (stm_tree (map-Stm Stm Tree tree_of_stm (map-Stm KnownCount Stm (λ e. e.0) y)))
 layer_counted (Ret e) = omega (arith, of_one (codes "ret") (tree_of_expr e), expr_counted e)
 layer_counted (Let x a b) = omega (arith, of_three (codes "let") (word x) (tree_of_stm a.0) (tree_of_stm b.0), of_word x, a.1, b.1)
-layer_counted (Seq parts) = omega (arith, of_form (codes "seq") (map tree_of_stm (map (λ e. e.0) parts)), ap sum (parts_counted parts))
+layer_counted (Seq parts) = omega (arith, of_form (codes "seq") (map tree_of_stm (map (λ e. e.0) parts)), ap sum (parts_counted trees_of_stm tree_of_stm parts))
 layer_counted (If e a b) = omega (arith, of_three (codes "if") (tree_of_expr e) (tree_of_stm a.0) (tree_of_stm b.0), expr_counted e, a.1, b.1)
 layer_counted (Case e arms) =
     let trees = map tree_of_case_arm (map (case_arm.map Stm Tree tree_of_stm) (case_arms arms)) in

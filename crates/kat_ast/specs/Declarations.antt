@@ -18,7 +18,7 @@ use Rattle.kat_ast.specs.declared.decl.When.{When}
 use Rattle.kat_ast.specs.declared.decl.DeclForm.{DeclForm}
 use Rattle.kat_ast.specs.declared.decl.DeclForm.TheVariants as d
 use Rattle.kat_ast.specs.Limits.{deepest_decl, decl_trees_bound}
-use Rattle.kat_ast.specs.Parts.{word, number, form, is_name, every, is_some}
+use Rattle.kat_ast.specs.Parts.{word, number, form, is_name, every, is_nonempty}
 use Rattle.kat_ast.specs.Types.{tree_of_type, tree_of_params, is_formed_type, are_formed_params, trees_of_type, trees_of_params}
 use Rattle.kat_ast.specs.Expressions.{tree_of_expr, is_formed_expr, trees_of_expr}
 use Rattle.kat_ast.specs.Statements.{tree_of_stm, is_formed_stm, trees_of_stm}
@@ -101,13 +101,13 @@ is_formed_when w = is_formed_expr w.test && is_formed_phase w.phase
 
 -- an enum, a union and a record have at least one part, and so has code
 abbrev pub is_formed_decl : DeclForm → Bool
-is_formed_decl (d.Enum x members) = is_name x && (is_some members && every (map is_name members))
-is_formed_decl (d.Union x ctors) = is_name x && (is_some ctors && are_formed_params ctors)
-is_formed_decl (d.Record x fields) = is_name x && (is_some fields && are_formed_params fields)
+is_formed_decl (d.Enum x members) = is_name x && (is_nonempty members && every (map is_name members))
+is_formed_decl (d.Union x ctors) = is_name x && (is_nonempty ctors && are_formed_params ctors)
+is_formed_decl (d.Record x fields) = is_name x && (is_nonempty fields && are_formed_params fields)
 is_formed_decl (d.Register x type kind) = is_name x && is_formed_type type
 is_formed_decl (d.Memory a c lo hi) = true
 is_formed_decl (d.Cells kind lo hi) = true
-is_formed_decl (d.Code lo values) = is_some values
+is_formed_decl (d.Code lo values) = is_nonempty values
 is_formed_decl (d.Region x params i e) =
     is_name x && (are_formed_params params && (is_name i && is_formed_expr e))
 is_formed_decl (d.Predicate x inputs outputs definition) =

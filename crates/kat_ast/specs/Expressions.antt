@@ -88,4 +88,4 @@ trees_of_expr = fold-Expr ℕ expr_trees
 
 -- how many trees expressions have together
 abbrev pub trees_of_exprs : List Expr → ℕ
-trees_of_exprs es = sum_by trees_of_expr es
+trees_of_exprs es = sum (map trees_of_expr es)

@@ -10,7 +10,3 @@ deepest_decl = most_open - 1
 -- a declaration has fewer trees than this
 abbrev pub decl_trees_bound : ℕ
 decl_trees_bound = 2 ^ 32
-
--- the version of the language that is built
-abbrev pub the_version : ℕ
-the_version = 1

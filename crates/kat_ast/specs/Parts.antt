@@ -23,10 +23,10 @@ every [] = true
 every (b ∷ bs) = b && every bs
 
 -- whether a list has a part
-abbrev pub is_some : {A : Type 0} → List A → Bool
-is_some [] = false
-is_some (x ∷ xs) = true
+abbrev pub is_nonempty : {A : Type 0} → List A → Bool
+is_nonempty [] = false
+is_nonempty (x ∷ xs) = true
 
 -- a count that stands still at the greatest u32
-abbrev pub capped : ℕ → ℕ
-capped n = min n (2 ^ 32 - 1)
+abbrev pub capped_count : ℕ → ℕ
+capped_count n = min n (2 ^ 32 - 1)

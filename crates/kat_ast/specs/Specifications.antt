@@ -4,14 +4,14 @@ use Rattle.std.specs.List.{AllByRecursion}
 use Rattle.kat_tree.specs.declared.tree.Tree.{Tree}
 use Rattle.kat_tree.specs.Spelling.{Spells}
 use Rattle.kat_tree.specs.Written.{text_of_tree}
-use Rattle.kat_ast.specs.Limits.{the_version}
+use Rattle.kat_value.specs.Version.{newest}
 use Rattle.kat_ast.specs.Spec.{Spec}
 use Rattle.kat_ast.specs.Parts.{number, form}
 use Rattle.kat_ast.specs.Declarations.{tree_of_decl, IsDecl}
 
--- the version is that of the language, and each declaration has its form
+-- the version is the newest, the only one that there is, and each declaration has its form
 pub record IsSpec (spec : Spec) : Type 0 where
-  pub version : spec.version ≡ the_version
+  pub version : spec.version ≡ newest
   pub decls : AllByRecursion IsDecl spec.decls
 
 -- `(spec V D ..)`

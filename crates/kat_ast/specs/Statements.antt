@@ -8,7 +8,7 @@ use Rattle.kat_ast.specs.declared.stm.MatchArm.{MatchArm}
 use Rattle.kat_ast.specs.declared.stm.Stm.TheOpen.{Stm-F, Ret, Let, Seq, If, Case, Match, Read, Write, Load, Store, Call, Check, Fail, Open, Close, Lemma}
 use Rattle.kat_ast.specs.declared.stm.Stm.TheFolds.{fold-Stm}
 use Rattle.kat_ast.specs.declared.stm.Stm.TheShapes.{former-Stm-Case-1-at-2 as case_arm, former-Stm-Match-1-at-3 as match_arm}
-use Rattle.kat_ast.specs.Parts.{word, form, is_name, every, is_some}
+use Rattle.kat_ast.specs.Parts.{word, form, is_name, every, is_nonempty}
 use Rattle.kat_ast.specs.Expressions.{tree_of_expr, is_formed_expr, are_formed_exprs, trees_of_expr, trees_of_exprs}
 
 -- `(A S)`
@@ -54,7 +54,7 @@ is_formed_match_arm arm = is_name arm.ctor && (is_name arm.payload && arm.body)
 abbrev pub stm_formed : Stm-F Bool → Bool
 stm_formed (Ret e) = is_formed_expr e
 stm_formed (Let x first then_) = is_name x && (first && then_)
-stm_formed (Seq parts) = is_some parts && every parts
+stm_formed (Seq parts) = is_nonempty parts && every parts
 stm_formed (If test then_ otherwise) = is_formed_expr test && (then_ && otherwise)
 stm_formed (Case e arms) = is_formed_expr e && every (map is_formed_case_arm arms)
 stm_formed (Match e arms) = is_formed_expr e && every (map is_formed_match_arm arms)

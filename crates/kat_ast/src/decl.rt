@@ -175,7 +175,9 @@ impl Model for Decl {
 
     ghost Value = { DeclForm };
 
-    ghost coded = { Prim.hlevel (codes, expr.the_row.coded, stm.the_row.coded, assertion.the_row.coded) };
+    ghost coded = {
+        Prim.hlevel (codes, expr.the_row.coded, stm.the_row.coded, assertion.the_row.coded)
+    };
 
     ghost use Rattle.kat_ast.specs.Declarations.{IsDecl};
 
@@ -221,7 +223,9 @@ impl Model for Spec {
 
     ghost Value = { SpecForm };
 
-    ghost coded = { Prim.hlevel (codes, expr.the_row.coded, stm.the_row.coded, assertion.the_row.coded) };
+    ghost coded = {
+        Prim.hlevel (codes, expr.the_row.coded, stm.the_row.coded, assertion.the_row.coded)
+    };
 
     ghost use Rattle.kat_ast.specs.Specifications.{IsSpec};
 
@@ -233,7 +237,7 @@ impl Model for Spec {
 impl Spec {
     ghost use Rattle.kat_ast.specs.Specifications.{IsSpec};
 
-    /// The specification of these declarations. The version is 1.
+    /// The specification of these declarations, of a version that there is.
     pub fn new(version: u64, decls: Items<Decl>) -> Spec
         requires { IsSpec (record { version = version; decls = decls }) }
         ensures { result ≡ record { version = version; decls = decls } }

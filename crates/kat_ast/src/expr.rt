@@ -5,7 +5,7 @@
 
 ghost use Rattle.std.specs.Prelude.{◌≡◌, length};
 ghost use Rattle.kat_value.specs.Words.{numbers_of_op};
-ghost use Rattle.kat_ast.specs.Parts.{capped};
+ghost use Rattle.kat_ast.specs.Parts.{capped_count};
 ghost use Rattle.kat_ast.specs.Expressions.{trees_of_expr, trees_of_exprs};
 
 use kat_text::Text;
@@ -69,26 +69,17 @@ pub enum Expr {
 }
 
 /// The trees of an expression.
+#[cycle(expressions)]
 pub fn count_expr(expr: &Expr) -> u32
-    ensures { result ≡ capped (trees_of_expr expr.now) }
+    ensures { result ≡ capped_count (trees_of_expr expr.now) }
 {
     match expr {
         Expr::Name(_) | Expr::Unit | Expr::Truth(_) => 1,
         Expr::Bits { .. } | Expr::Of { .. } => 4,
         Expr::Make { payload, .. } => count_expr(payload.get()).saturating_add(3),
-        Expr::Rec { fields, .. } => {
-            let mut total: u32 = 3;
-            for field in fields.as_slice() {
-                total = total.saturating_add(count_expr(field));
-            }
-            total
-        }
+        Expr::Rec { fields, .. } => count_exprs(fields.as_slice()).saturating_add(3),
         Expr::Apply { op, args } => {
-            let mut total = 2 + count_numbers(*op);
-            for arg in args.as_slice() {
-                total = total.saturating_add(count_expr(arg));
-            }
-            total
+            count_exprs(args.as_slice()).saturating_add(2 + count_numbers(*op))
         }
         Expr::Get { value, .. } => count_expr(value.get()).saturating_add(4),
         _ => 3,
@@ -96,8 +87,9 @@ pub fn count_expr(expr: &Expr) -> u32
 }
 
 /// The trees of expressions side by side.
+#[cycle(expressions)]
 pub fn count_exprs(exprs: &[Expr]) -> u32
-    ensures { result ≡ capped (trees_of_exprs exprs.now) }
+    ensures { result ≡ capped_count (trees_of_exprs exprs.now) }
 {
     let mut total: u32 = 0;
     for expr in exprs {

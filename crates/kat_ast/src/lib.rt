@@ -19,7 +19,7 @@ pub use decl::{Block, CellsKind, Decl, DeclForm, Phase, RegisterKind, Spec, When
 pub use expr::{Expr, count_expr};
 pub use kat_value::Op;
 pub use laws::{one_form, one_reading, places_are_of_the_tree, specifications_can_be_written};
-pub use limits::{DECL_TREES_BOUND, DEEPEST_DECL, THE_VERSION};
+pub use limits::{DECL_TREES_BOUND, DEEPEST_DECL};
 pub use place::Place;
 pub use stm::{CaseArm, MatchArm, Stm, count_stm};
 pub use type_name::{Param, TypeName, count_params, count_type};

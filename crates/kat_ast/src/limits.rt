@@ -8,6 +8,3 @@ pub const DEEPEST_DECL: usize = MOST_OPEN - 1;
 
 /// A declaration has fewer trees than this.
 pub const DECL_TREES_BOUND: u64 = 1 << 32;
-
-/// The version of the language that is built.
-pub const THE_VERSION: u64 = 1;

@@ -1,7 +1,7 @@
 //! Statements, and how many trees each has.
 
 ghost use Rattle.std.specs.Prelude.{◌≡◌};
-ghost use Rattle.kat_ast.specs.Parts.{capped};
+ghost use Rattle.kat_ast.specs.Parts.{capped_count};
 ghost use Rattle.kat_ast.specs.Statements.{trees_of_stm, trees_of_stms, trees_of_case_arms, trees_of_match_arms};
 
 use crate::expr::{Expr, count_expr, count_exprs};
@@ -98,7 +98,7 @@ pub struct MatchArm<B> {
 /// The trees of a statement.
 #[cycle(statements)]
 pub fn count_stm(stm: &Stm) -> u32
-    ensures { result ≡ capped (trees_of_stm stm.now) }
+    ensures { result ≡ capped_count (trees_of_stm stm.now) }
 {
     match stm {
         Stm::Ret(value) | Stm::Load(value) | Stm::Check(value) => {
@@ -138,7 +138,7 @@ pub fn count_stm(stm: &Stm) -> u32
 /// The trees of statements side by side.
 #[cycle(statements)]
 fn count_stms(stms: &[Stm]) -> u32
-    ensures { result ≡ capped (trees_of_stms stms.now) }
+    ensures { result ≡ capped_count (trees_of_stms stms.now) }
 {
     let mut total: u32 = 0;
     for stm in stms {
@@ -150,7 +150,7 @@ fn count_stms(stms: &[Stm]) -> u32
 /// The trees of the arms of a `case`.
 #[cycle(statements)]
 fn count_case_arms(arms: &[CaseArm<Stm>]) -> u32
-    ensures { result ≡ capped (trees_of_case_arms arms.now) }
+    ensures { result ≡ capped_count (trees_of_case_arms arms.now) }
 {
     let mut total: u32 = 0;
     for arm in arms {
@@ -162,7 +162,7 @@ fn count_case_arms(arms: &[CaseArm<Stm>]) -> u32
 /// The trees of the arms of a `match`.
 #[cycle(statements)]
 fn count_match_arms(arms: &[MatchArm<Stm>]) -> u32
-    ensures { result ≡ capped (trees_of_match_arms arms.now) }
+    ensures { result ≡ capped_count (trees_of_match_arms arms.now) }
 {
     let mut total: u32 = 0;
     for arm in arms {

@@ -1,7 +1,7 @@
 //! Types as they are written, names with their types, and how many trees each has.
 
 ghost use Rattle.std.specs.Prelude.{◌≡◌};
-ghost use Rattle.kat_ast.specs.Parts.{capped};
+ghost use Rattle.kat_ast.specs.Parts.{capped_count};
 ghost use Rattle.kat_ast.specs.Types.{trees_of_type, trees_of_params};
 
 use kat_text::Text;
@@ -36,7 +36,7 @@ pub fn count_type(ty: &TypeName) -> u32
 
 /// The trees of a list of parameters, the list itself among them.
 pub fn count_params(params: &[Param]) -> u32
-    ensures { result ≡ capped (trees_of_params params.now) }
+    ensures { result ≡ capped_count (trees_of_params params.now) }
 {
     let mut total: u32 = 1;
     for param in params {

@@ -14,27 +14,27 @@ use Rattle.kat_shapes.specs.declared.misfit.Misfit.{Misfit}
 use Rattle.kat_shapes.specs.Sorts.{wanted_of}
 use Rattle.kat_shapes.specs.Forms.{Form, form_of, sorts_of, fits_token}
 use Rattle.kat_shapes.specs.Fits.{fits_in}
-use Rattle.kat_shapes.specs.Places.{word_before, sorts_of_parts, has_form, IsMisfitFrom, capped}
+use Rattle.kat_shapes.specs.Places.{word_before, sorts_of_parts, has_form, IsMisfitFrom, capped_place}
 use Rattle.kat_shapes.proofs.Layers.{count_of-Atom, count_of-List, fits-Atom, has_form-Atom, has_form-List}
 use Rattle.kat_shapes.proofs.Parts.{before, before_more, before_whole}
 use Rattle.kat_shapes.proofs.Misfits.{Below, below_none, below_fit, below_all, list_fit, formless_here, formless_inside, sorts_length}
 
 -- numbers that stand still
-pub capped_more : (a b : ℕ) → capped (capped a + b) ≡ capped (a + b)
+pub capped_more : (a b : ℕ) → capped_place (capped_place a + b) ≡ capped_place (a + b)
 capped_more a b = omega arith
 
-pub capped_small : (a : ℕ) → a < 2 ^ 64 → a ≡ capped a
+pub capped_small : (a : ℕ) → a < 2 ^ 64 → a ≡ capped_place a
 capped_small a small = omega arith
 
 -- the parts before a position fit, and the next of them has this number
 pub record Going (v : ℕ) (sorts : List Sort) (parts : List Tree) (place next at : ℕ) : Type 0 where
   pub below : Below v sorts parts at
-  pub next_is : next ≡ capped (place_of_part place parts at)
+  pub next_is : next ≡ capped_place (place_of_part place parts at)
 
-pub start : (v : ℕ) (sorts : List Sort) (parts : List Tree) (place next : ℕ) → next ≡ capped (place + 1) → Going v sorts parts place next 0
+pub start : (v : ℕ) (sorts : List Sort) (parts : List Tree) (place next : ℕ) → next ≡ capped_place (place + 1) → Going v sorts parts place next 0
 start v sorts parts place next e = record {
   below = below_none v sorts parts;
-  next_is = e ∙ ap capped (let f : place + 1 ≡ place + 1 + 0 = omega arith in f);
+  next_is = e ∙ ap capped_place (let f : place + 1 ≡ place + 1 + 0 = omega arith in f);
 }
 
 -- the sorts of the parts of a list of this form
@@ -99,7 +99,7 @@ misfit_here v sort t place misfit small none is = record {
   found = t;
   sort = sort;
   is = formless_here v sort t none;
-  at = ap (λ m. m.place) is ∙ (let e : place ≡ capped (place + 0) = omega arith in e);
+  at = ap (λ m. m.place) is ∙ (let e : place ≡ capped_place (place + 0) = omega arith in e);
   wanted = ap (λ m. m.wanted) is;
 }
 
@@ -111,12 +111,12 @@ module _ (v : ℕ) (sort : Sort) (t : Tree) (parts : List Tree) (sorts : List So
     (place next at : ℕ) (going : Going v sorts parts place next at) where
   module _ (part : Tree) (s : Sort) (here : slice_get parts at ≡ Some part) (sorted : slice_get sorts at ≡ Some s) where
     -- the next part fits
-    pub step : (then : ℕ) → fits_in v s part ≡ true → then ≡ capped (next + count_of part) → Going v sorts parts place then (at + 1)
+    pub step : (then : ℕ) → fits_in v s part ≡ true → then ≡ capped_place (next + count_of part) → Going v sorts parts place then (at + 1)
     step then fit e = record {
       below = below_fit v sorts parts at part s going.below here sorted fit;
       next_is =
-          e ∙ ap (λ n. capped (n + count_of part)) going.next_is ∙ capped_more (place_of_part place parts at) (count_of part)
-          ∙ ap capped (let m = before_more parts at part here in let f : place_of_part place parts at + count_of part ≡ place_of_part place parts (at + 1) = omega arith in f);
+          e ∙ ap (λ n. capped_place (n + count_of part)) going.next_is ∙ capped_more (place_of_part place parts at) (count_of part)
+          ∙ ap capped_place (let m = before_more parts at part here in let f : place_of_part place parts at + count_of part ≡ place_of_part place parts (at + 1) = omega arith in f);
     }
 
     -- the next part has the first misfit
@@ -127,16 +127,16 @@ module _ (v : ℕ) (sort : Sort) (t : Tree) (parts : List Tree) (sorts : List So
       sort = from.sort;
       is = formless_inside v sort t parts sorts is formed at part s here sorted going.below from.place from.found from.sort from.is;
       at =
-          from.at ∙ ap (λ n. capped (n + from.place)) going.next_is ∙ capped_more (place_of_part place parts at) from.place
-          ∙ ap capped (let f : place_of_part place parts at + from.place ≡ place + (1 + before at parts + from.place) = omega arith in f);
+          from.at ∙ ap (λ n. capped_place (n + from.place)) going.next_is ∙ capped_more (place_of_part place parts at) from.place
+          ∙ ap capped_place (let f : place_of_part place parts at + from.place ≡ place + (1 + before at parts + from.place) = omega arith in f);
       wanted = from.wanted;
     }
 
   -- all parts fit
-  pub end : length parts ≤ at → (fits_in v sort t ≡ true) × (next ≡ capped (place + count_of t))
+  pub end : length parts ≤ at → (fits_in v sort t ≡ true) × (next ≡ capped_place (place + count_of t))
   end past = (
     list_fit v sort t parts sorts is formed (below_all v sorts parts at past going.below),
-    going.next_is ∙ ap capped (
+    going.next_is ∙ ap capped_place (
         let m = ap (λ ps. sum (map count_of ps)) (take_all at parts past) in
         let n = ap count_of is ∙ count_of-List parts in
         let f : place_of_part place parts at ≡ place + count_of t = omega arith in f),

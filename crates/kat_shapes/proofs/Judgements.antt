@@ -8,7 +8,7 @@ use Rattle.kat_shapes.specs.declared.misfit.Misfit.{Misfit}
 use Rattle.kat_shapes.specs.Sorts.{wanted_of}
 use Rattle.kat_shapes.specs.Fits.{fits_in}
 use Rattle.kat_shapes.specs.Version.{version_of}
-use Rattle.kat_shapes.specs.Places.{IsRead, capped, has_form, AllHaveForm, IsFirstMisfit, IsMisfitFrom}
+use Rattle.kat_shapes.specs.Places.{IsRead, capped_place, has_form, AllHaveForm, IsFirstMisfit, IsMisfitFrom}
 use Rattle.kat_shapes.proofs.Reading.{one_reading}
 use Rattle.kat_shapes.proofs.Misfits.{First, outcome, fit_everywhere}
 
@@ -16,7 +16,7 @@ pub some_judgement : (root : Sort) (text : Tree) → AllHaveForm root text ⊎ (
 some_judgement root text = ⊎_elim
     (λ (fit : fits_in (version_of root text) root text ≡ true). inl (fit_everywhere (version_of root text) root text fit))
     (λ (first : First (version_of root text) root text).
-    let misfit : Misfit = record { place = capped first.place; wanted = wanted_of first.sort } in
+    let misfit : Misfit = record { place = capped_place first.place; wanted = wanted_of first.sort } in
     let is : IsFirstMisfit root text misfit = record { place = first.place; found = first.found; sort = first.sort; is = first.is; at = refl; wanted = refl } in
     inr (misfit, is))
     (outcome (count_of text) (version_of root text) root text (omega arith))
@@ -47,7 +47,7 @@ one_misfit root text a b first second =
     let e = one_place root text a b first second in
     let read = subst (λ n. IsRead (version_of root text) root text n first.found first.sort) e first.is.read in
     let same = one_reading (count_of text) (version_of root text) root text (omega arith) second.place first.found second.found first.sort second.sort read second.is.read in
-    misfit_same a b (first.at ∙ ap capped e ∙ sym second.at) (first.wanted ∙ ap wanted_of same.1 ∙ sym second.wanted)
+    misfit_same a b (first.at ∙ ap capped_place e ∙ sym second.at) (first.wanted ∙ ap wanted_of same.1 ∙ sym second.wanted)
 
 -- a misfit that is counted from the root on
 pub from_root : (root : Sort) (text : Tree) (misfit : Misfit) → IsMisfitFrom (version_of root text) root text 0 misfit → IsFirstMisfit root text misfit
@@ -56,6 +56,6 @@ from_root root text misfit from = record {
   found = from.found;
   sort = from.sort;
   is = from.is;
-  at = from.at ∙ ap capped (let e : 0 + from.place ≡ from.place = omega arith in e);
+  at = from.at ∙ ap capped_place (let e : 0 + from.place ≡ from.place = omega arith in e);
   wanted = from.wanted;
 }

@@ -9,9 +9,10 @@ use Rattle.kat_value.specs.Words.{word_of_op, numbers_of_op, arity_of, written_o
 use Rattle.kat_shapes.specs.declared.sort.Sort.{Sort}
 use Rattle.kat_shapes.specs.declared.sort.Sort.TheVariants.{Spec, Version, Declaration, TypeName, Name, Number, RegisterPlace, CellsPlace, Statement, Expression, Assertion, Phase, Members, Params, Fields, Param, CaseArm, MatchArm, Pre, Res, Post, Steps, When, Else, Entry, Within, Change, Word}
 pub use Rattle.kat_value.specs.Words.{is_name}
+pub use Rattle.kat_value.specs.Version.{is_version, newest}
 
--- Parts of these sorts, then any number of one sort, then last parts; with no sort in the middle none
--- stand there. The word that begins a form is a part too. It is there from a version on.
+-- Parts of these sorts, then any number of one sort, then last parts; with no sort in the middle
+-- none stand there. The word that begins a form is a part too. It is there from a version on.
 pub record Form : Type 0 where
   pub since : ℕ
   pub first : List Sort
@@ -123,25 +124,29 @@ assertions =
     ∷ (codes "region", many (Word ∷ Name ∷ []) Expression)
     ∷ []
 
+-- a specification, and the lists inside forms that a word of their own begins
+abbrev pub parts_of : Sort → Rows Form
+parts_of Spec = (codes "spec", many (Word ∷ Version ∷ []) Declaration) ∷ []
+parts_of TypeName = (codes "bits", exactly (Word ∷ Number ∷ [])) ∷ []
+parts_of Phase = (codes "block", exactly (Word ∷ Name ∷ [])) ∷ []
+parts_of Pre = (codes "pre", exactly (Word ∷ Assertion ∷ [])) ∷ []
+parts_of Res = (codes "res", exactly (Word ∷ Name ∷ [])) ∷ []
+parts_of Post = (codes "post", exactly (Word ∷ Assertion ∷ [])) ∷ []
+parts_of Steps = (codes "steps", many (Word ∷ []) Statement) ∷ []
+parts_of When = (codes "when", exactly (Word ∷ Expression ∷ Phase ∷ [])) ∷ []
+parts_of Else = (codes "else", exactly (Word ∷ Phase ∷ [])) ∷ []
+parts_of Entry = (codes "entry", exactly (Word ∷ Assertion ∷ [])) ∷ []
+parts_of Within = (codes "within", exactly (Word ∷ Number ∷ [])) ∷ []
+parts_of Change = (codes "change", exactly (Word ∷ Expression ∷ [])) ∷ []
+parts_of _ = []
+
 -- the forms of a sort, each told by its word
 abbrev pub forms_of : Sort → Rows Form
-forms_of Spec = (codes "spec", many (Word ∷ Version ∷ []) Declaration) ∷ []
 forms_of Declaration = declarations
-forms_of TypeName = (codes "bits", exactly (Word ∷ Number ∷ [])) ∷ []
 forms_of Statement = statements
 forms_of Expression = expressions
 forms_of Assertion = assertions
-forms_of Phase = (codes "block", exactly (Word ∷ Name ∷ [])) ∷ []
-forms_of Pre = (codes "pre", exactly (Word ∷ Assertion ∷ [])) ∷ []
-forms_of Res = (codes "res", exactly (Word ∷ Name ∷ [])) ∷ []
-forms_of Post = (codes "post", exactly (Word ∷ Assertion ∷ [])) ∷ []
-forms_of Steps = (codes "steps", many (Word ∷ []) Statement) ∷ []
-forms_of When = (codes "when", exactly (Word ∷ Expression ∷ Phase ∷ [])) ∷ []
-forms_of Else = (codes "else", exactly (Word ∷ Phase ∷ [])) ∷ []
-forms_of Entry = (codes "entry", exactly (Word ∷ Assertion ∷ [])) ∷ []
-forms_of Within = (codes "within", exactly (Word ∷ Number ∷ [])) ∷ []
-forms_of Change = (codes "change", exactly (Word ∷ Expression ∷ [])) ∷ []
-forms_of _ = []
+forms_of sort = parts_of sort
 
 -- the form of a list that is told by where it stands and not by a word
 abbrev pub form_by_place : Sort → Option Form
@@ -198,14 +203,6 @@ sorts_of form count =
 abbrev pub sorts_for : ℕ → Sort → Option (List ℕ) → ℕ → Option (List Sort)
 sorts_for version sort first count =
     option_and_then (λ form. sorts_of form count) (form_of version sort first)
-
--- a version that there is
-abbrev pub is_version : ℕ → Bool
-is_version n = n == 1
-
--- the newest version
-abbrev pub newest : ℕ
-newest = 1
 
 -- whether a row is there in a version
 abbrev pub is_since : ℕ → Option ℕ → Bool

@@ -58,8 +58,8 @@ abbrev pub AllHaveForm : Sort → Tree → Type 0
 AllHaveForm root text = HaveForm (version_of root text) root text
 
 -- a number that stands still at the greatest of 64 bits
-abbrev pub capped : ℕ → ℕ
-capped n = min n (2 ^ 64 - 1)
+abbrev pub capped_place : ℕ → ℕ
+capped_place n = min n (2 ^ 64 - 1)
 
 -- a tree that is read as a sort and has no form of it, where each tree with a lesser number has one
 pub record IsFirstFormless (version : ℕ) (root : Sort) (text : Tree)
@@ -75,7 +75,7 @@ pub record IsFirstMisfit (root : Sort) (text : Tree) (misfit : Misfit) : Type 0 
   pub found : Tree
   pub sort : Sort
   pub is : IsFirstFormless (version_of root text) root text place found sort
-  pub at : misfit.place ≡ capped place
+  pub at : misfit.place ≡ capped_place place
   pub wanted : misfit.wanted ≡ wanted_of sort
 
 -- the same for a tree that has a number itself: its trees are counted on from there
@@ -85,7 +85,7 @@ pub record IsMisfitFrom (version : ℕ) (root : Sort) (tree : Tree)
   pub found : Tree
   pub sort : Sort
   pub is : IsFirstFormless version root tree place found sort
-  pub at : misfit.place ≡ capped (start + place)
+  pub at : misfit.place ≡ capped_place (start + place)
   pub wanted : misfit.wanted ≡ wanted_of sort
 
 -- a list has a form of a sort, and each of its parts fits the sort that the form has for it

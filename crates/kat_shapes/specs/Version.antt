@@ -22,8 +22,8 @@ stated_in _ = newest
 abbrev pub stated_of : Tree → ℕ
 stated_of text = stated_in (out-Tree text)
 
--- the version of a text whose root is of this sort: a specification states its own, all else is of
--- the newest
+-- the version of a text whose root is of this sort: a specification states its own, all else states
+-- none and may have each form of the newest
 abbrev pub version_of : Sort → Tree → ℕ
 version_of Spec text = stated_of text
 version_of _ text = newest

@@ -4,7 +4,7 @@ ghost use Rattle.std.specs.Prelude.{◌≡◌, ◌+◌, true, map, MatchResult, 
 ghost use Rattle.std.specs.Option.{option_map};
 ghost use Rattle.kat_tree.specs.Preorder.{count_of};
 ghost use Rattle.kat_shapes.specs.Fits.{first_word, judged, fits, fits_in};
-ghost use Rattle.kat_shapes.specs.Places.{AllHaveForm, IsFirstMisfit, IsMisfitFrom, capped, word_before};
+ghost use Rattle.kat_shapes.specs.Places.{AllHaveForm, IsFirstMisfit, IsMisfitFrom, capped_place, word_before};
 
 use crate::form::{has_count, sort_at};
 use crate::misfit::Misfit;
@@ -33,7 +33,7 @@ pub fn judge(tree: &Tree, root: Sort) -> Result<(), Misfit>
 fn judge_from(version: u64, tree: &Tree, sort: Sort, place: u64) -> Result<u64, Misfit>
     ensures { MatchResult result
         (λ next. (fits_in version sort tree.now ≡ true)
-        × (next ≡ capped (place + count_of tree.now)))
+        × (next ≡ capped_place (place + count_of tree.now)))
         (IsMisfitFrom version sort tree.now place) }
 {
     match tree {

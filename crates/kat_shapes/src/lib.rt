@@ -21,5 +21,4 @@ pub use judging::{first_word, judge};
 pub use laws::{fitting, one_judgement, parts_of_lists, readings};
 pub use misfit::Misfit;
 pub use sort::Sort;
-pub use version::NEWEST;
 pub use wanted::Wanted;

@@ -1,10 +1,10 @@
 //! The table of forms: the word with which each begins, and what its parts are read as. Each row
 //! stands in `specs/Forms` too.
 
-ghost use Rattle.std.specs.Prelude.{◌≡◌, if◌then◌else◌, None};
+ghost use Rattle.std.specs.Prelude.{◌≡◌};
 ghost use Rattle.std.specs.Option.{option_map, option_and_then};
-ghost use Rattle.kat_shapes.specs.Forms.{declarations, statements, expressions, operations, assertions, forms_of, form_in, form_of, form_of_op, row_of, words_of};
-ghost use Rattle.kat_shapes.specs.Seen.{seen_form, is_small};
+ghost use Rattle.kat_shapes.specs.Forms.{declarations, statements, expressions, operations, assertions, parts_of, forms_of, form_in, form_of, form_of_op, row_of, words_of};
+ghost use Rattle.kat_shapes.specs.Seen.{seen_form};
 
 use crate::form::{Form, between, exactly, many};
 use crate::sort::Sort::{
@@ -14,8 +14,8 @@ use crate::sort::Sort::{
 };
 use kat_value::{Op, op_of_word};
 
-/// The form of a list that is read as a sort, in a version of the text: by where it stands, or by its
-/// first word.
+/// The form of a list that is read as a sort, in a version of the text: by where it stands, or by
+/// its first word.
 pub(crate) fn form_of(version: u64, sort: Sort, first: Option<&str>) -> Option<Form>
     ensures { option_map seen_form result
         ≡ form_of version sort (option_map (λ word. word.now) first.entry) }
@@ -51,7 +51,7 @@ fn form_of_word(sort: Sort, word: &str) -> Option<Form>
         Statement => statement(word),
         Expression => expression(word),
         Assertion => assertion(word),
-        _ => small(sort, word),
+        _ => part(sort, word),
     }
 }
 
@@ -164,10 +164,9 @@ fn assertion(word: &str) -> Option<Form>
     }
 }
 
-/// The form of a sort that has one form alone, or few.
-fn small(sort: Sort, word: &str) -> Option<Form>
-    ensures { option_map seen_form result
-        ≡ if is_small sort then row_of (forms_of sort) word.now else None }
+/// A specification, or a list inside a form, that a word of its own begins.
+fn part(sort: Sort, word: &str) -> Option<Form>
+    ensures { option_map seen_form result ≡ row_of (parts_of sort) word.now }
 {
     match (sort, word) {
         (Sort::Spec, "spec") => Some(many(&[Word, Version], Declaration)),

@@ -1,11 +1,12 @@
 //! Atoms.
 
 ghost use Rattle.std.specs.Prelude.{◌≡◌};
-ghost use Rattle.kat_shapes.specs.Forms.{is_name, is_version, is_since, row_of, words_of, fits_token};
+ghost use Rattle.kat_shapes.specs.Forms.{is_name, is_since, row_of, words_of, fits_token};
 
 use crate::sort::Sort;
 use crate::table::word_since;
 use kat_tree::Token;
+use kat_value::is_version;
 
 /// Whether a number or a name stands for a sort, in a version of the text.
 pub(crate) fn fits_token(version: u64, sort: Sort, token: &Token) -> bool
@@ -21,13 +22,6 @@ pub(crate) fn fits_token(version: u64, sort: Sort, token: &Token) -> bool
         (_, Token::Number(_)) => false,
         (_, Token::Name(word)) => is_word_of(version, sort, word.as_str()),
     }
-}
-
-/// Whether a number is that of a version.
-pub(crate) fn is_version(n: u64) -> bool
-    ensures { result ≡ is_version n }
-{
-    n == 1
 }
 
 /// Whether a word may be a name.

@@ -1,18 +1,15 @@
 //! The version that a text states.
 
 ghost use Rattle.std.specs.Prelude.{◌≡◌};
-ghost use Rattle.kat_shapes.specs.Forms.{newest};
 ghost use Rattle.kat_shapes.specs.Version.{version_of, stated_of};
 
 use crate::sort::Sort;
-use crate::token::is_version;
 use kat_tree::{Token, Tree};
+use kat_value::{NEWEST, is_version};
 
-/// The newest version of the text.
-pub const NEWEST: u64 = 1;
-
-/// The version of a text whose root is of this sort: a specification states its own, all else is of
-/// the newest.
+/// The version of a text whose root is of this sort. A specification states its own. A declaration
+/// by itself states none and may be of any: it may have each form that some version has, so it is
+/// judged by the newest, and who puts it into a specification asks there for that one's version.
 pub(crate) fn version_of(tree: &Tree, root: Sort) -> u64
     ensures { result ≡ version_of root tree.now }
 {

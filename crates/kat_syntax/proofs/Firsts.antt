@@ -12,7 +12,7 @@ use Rattle.kat_ast.specs.declared.decl.DeclForm.{DeclForm}
 use Rattle.kat_ast.specs.declared.decl.DeclForm.TheVariants.{Fun}
 use Rattle.kat_syntax.specs.Tables.{Name, function_at}
 use Rattle.kat_syntax.specs.FirstForm.{is_first_stm, is_first_decl, are_first_decls}
-use Rattle.kat_ast.specs.Parts.{capped}
+use Rattle.kat_ast.specs.Parts.{capped_count}
 use Rattle.kat_ast.specs.Types.{trees_of_type, trees_of_params}
 use Rattle.kat_ast.specs.Statements.{trees_of_stm}
 use Rattle.kat_ast.specs.Declarations.{trees_of_decl, IsDecl, tree_of_decl}
@@ -66,11 +66,11 @@ pub record IsPlace (params : List Param) (result : TypeName) (body : Stm) (n m :
   pub small : 3 + n + m + trees_of_stm body < 2 ^ 32
 
 pub body_place : ((d : DeclForm) → trees_of_decl d ≡ count_of (tree_of_decl d)) → (decl seen : DeclForm) (x : Name) (params listed : List Param) (result : TypeName) (body : Stm) (n m : ℕ) →
-    IsDecl decl → seen ≡ decl → seen ≡ Fun x params result body → listed ≡ params → n ≡ capped (trees_of_params listed) → m ≡ trees_of_type result → IsPlace params result body n m
+    IsDecl decl → seen ≡ decl → seen ≡ Fun x params result body → listed ≡ params → n ≡ capped_count (trees_of_params listed) → m ≡ trees_of_type result → IsPlace params result body n m
 body_place counted decl seen x params listed result body n m kept seen_is seen_fun listed_is n_is m_is =
     let few : trees_of_decl (Fun x params result body) < 2 ^ 32 =
     subst (λ d. trees_of_decl d < 2 ^ 32) (sym seen_is ∙ seen_fun) (rw (counted decl) kept.small) in
-    let count : n ≡ capped (trees_of_params params) = n_is ∙ ap (λ ps. capped (trees_of_params ps)) listed_is in
+    let count : n ≡ capped_count (trees_of_params params) = n_is ∙ ap (λ ps. capped_count (trees_of_params ps)) listed_is in
     record { place = omega (arith, few, count, m_is); small = omega (arith, few, count, m_is) }
 
 -- the function at a number, with its body at this place

@@ -4,5 +4,6 @@ pub mod Operations
 pub mod Signatures
 pub mod TypeLaws
 pub mod Typing
+pub mod Version
 pub mod Widths
 pub mod Words

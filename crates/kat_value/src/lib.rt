@@ -17,6 +17,7 @@ mod tests;
 mod types;
 mod typing;
 mod value;
+mod version;
 mod width;
 mod words;
 
@@ -33,6 +34,7 @@ pub use signature::{Signature, signature_of};
 pub use types::{Field, Ty, TypeDecl, Types};
 pub use typing::fits;
 pub use value::{Value, Values};
+pub use version::{NEWEST, is_version};
 pub use width::{WIDEST, is_literal, is_number, is_width};
 pub use words::{
     OpNumbers, arity_of, is_written, numbers_of_op, op_of_word, with_numbers, word_of_op,

@@ -41,16 +41,16 @@ devices_given None = Some []
 devices_given (Some word) = devices_of word
 
 -- the run with these numbers, where all are there
-abbrev pub with_numbers :
+abbrev pub run_with :
     Text → Text → Option ℕ → Option ℕ → Option (List ℕ) → Option Job
-with_numbers spec image (Some cycles) (Some calls) (Some devices) =
+run_with spec image (Some cycles) (Some calls) (Some devices) =
     Some (Run spec image cycles calls devices)
-with_numbers spec image _ _ _ = None
+run_with spec image _ _ _ = None
 
 -- `run SPEC IMAGE --cycles N --calls N [--devices LIST]`
 abbrev pub run_of : Given → List Text → Option Job
 run_of g (spec ∷ image ∷ []) =
-    with_numbers spec image (number_given 0 most_cycles g.cycles)
+    run_with spec image (number_given 0 most_cycles g.cycles)
     (number_given 1 most_calls g.calls) (devices_given g.devices)
 run_of g _ = None
 

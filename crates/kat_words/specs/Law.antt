@@ -1,7 +1,7 @@
 -- What plain words ask for, in words of their own.
 use Rattle.std.specs.Prelude.{◌≡◌, ◌==◌, Bool, false, not, List, [], ◌∷◌, codes, Some}
 use Rattle.clap.specs.Words.{Text}
-use Rattle.kat_words.specs.Jobs.{job_of, with_numbers}
+use Rattle.kat_words.specs.Jobs.{job_of, run_with}
 use Rattle.kat_words.specs.Limits.{most_calls, most_cycles}
 use Rattle.kat_words.specs.Numbers.{number_within}
 
@@ -19,5 +19,5 @@ words_of_run spec image cycles calls =
 abbrev pub RunIsRead : Text → Text → Text → Text → Type 0
 RunIsRead spec image cycles calls =
     job_of (words_of_run spec image cycles calls)
-    ≡ with_numbers spec image (number_within 0 most_cycles cycles)
+    ≡ run_with spec image (number_within 0 most_cycles cycles)
     (number_within 1 most_calls calls) (Some [])
