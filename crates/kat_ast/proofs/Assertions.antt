@@ -1,5 +1,5 @@
 -- Assertions: the tree of each is read back as it, and has as many trees as it is said to have.
-use Rattle.std.proofs.Common.{◌≡◌, Bool, true, ◌&&◌, List, [], ◌∷◌, map, sym, ap, ◌∙◌, refl, subst, ℕ, sum, arith}
+use Rattle.std.proofs.Common.{◌≡◌, Bool, true, ◌&&◌, List, [], ◌∷◌, map, sym, ap, ◌∙◌, subst, ℕ, sum, arith}
 use Rattle.std.specs.Prelude.{codes}
 use Rattle.std.proofs.lemmas.Bool.{and_parts}
 use Rattle.kat_tree.specs.declared.tree.Tree.{Tree}
@@ -10,7 +10,7 @@ use Rattle.kat_ast.specs.declared.assertion.Assertion.{Assertion}
 use Rattle.kat_ast.specs.declared.assertion.Assertion.TheOpen.{Assertion-F, Pure, Register, Cell, Star, If, Exists, Predicate, Region}
 use Rattle.kat_ast.specs.declared.assertion.Assertion.TheViews.{roll-Assertion}
 use Rattle.kat_ast.specs.declared.assertion.Assertion.TheFolds.{map-Assertion, fold-roll-Assertion, ind-Assertion}
-use Rattle.kat_ast.specs.Parts.{word, is_name, every}
+use Rattle.kat_ast.specs.Parts.{word, is_name}
 use Rattle.kat_ast.specs.Types.{tree_of_type, is_formed_type}
 use Rattle.kat_ast.specs.Expressions.{tree_of_expr, is_formed_expr, are_formed_exprs}
 use Rattle.kat_ast.specs.Assertions.{assertion_tree, tree_of_assertion, assertion_formed, is_formed_assertion, assertion_trees, trees_of_assertion}

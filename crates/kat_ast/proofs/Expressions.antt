@@ -16,7 +16,7 @@ use Rattle.kat_ast.specs.Expressions.{numbers_before, expr_tree, tree_of_expr, e
 use Rattle.kat_ast.specs.Laws.{IsToldByTree}
 use Rattle.kat_ast.proofs.Decoded.{decoded, applied_by, expr_by, expr_named, word_back, number_back, named_expr, expr_form}
 use Rattle.kat_ast.proofs.Types.{denied}
-use Rattle.kat_ast.proofs.Counting.{sum-cons, sum_by-map, of_word, of_number, of_form, of_one, of_two, of_three, of_more}
+use Rattle.kat_ast.proofs.Counting.{sum-cons, of_word, of_number, of_form, of_one, of_two, of_three, of_more}
 use Rattle.kat_ast.proofs.SideBySide.{parts_back, parts_counted}
 
 name_back : (x : List ℕ) → is_name x ≡ true → expr_named x ≡ roll-Expr (Name x)

@@ -101,7 +101,8 @@ is_formed_when w = is_formed_expr w.test && is_formed_phase w.phase
 
 -- an enum, a union and a record have at least one part, and so has code
 abbrev pub is_formed_decl : DeclForm → Bool
-is_formed_decl (d.Enum x members) = is_name x && (is_nonempty members && every (map is_name members))
+is_formed_decl (d.Enum x members) =
+    is_name x && (is_nonempty members && every (map is_name members))
 is_formed_decl (d.Union x ctors) = is_name x && (is_nonempty ctors && are_formed_params ctors)
 is_formed_decl (d.Record x fields) = is_name x && (is_nonempty fields && are_formed_params fields)
 is_formed_decl (d.Register x type kind) = is_name x && is_formed_type type

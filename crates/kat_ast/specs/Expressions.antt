@@ -1,5 +1,5 @@
 -- Expressions: the tree of each, what each owes beside its parts, and how many trees it has.
-use Rattle.std.specs.Prelude.{ℕ, ◌+◌, Bool, true, false, ◌&&◌, ◌==◌, List, [], ◌∷◌, ◌++◌, length, map, sum, sum_by, codes}
+use Rattle.std.specs.Prelude.{ℕ, ◌+◌, Bool, true, false, ◌&&◌, ◌==◌, List, [], ◌∷◌, ◌++◌, length, map, sum, codes}
 use Rattle.kat_tree.specs.declared.tree.Tree.{Tree}
 use Rattle.kat_value.specs.declared.op.Op.{Op}
 use Rattle.kat_value.specs.Words.{word_of_op, numbers_of_op, arity_of, is_written}

@@ -168,16 +168,14 @@ pub struct Decl {
 
 impl Model for Decl {
     ghost use Rattle.kat_ast.specs.declared.decl.DeclForm.{DeclForm};
-    ghost use Rattle.kat_ast.specs.contracts.expr.Expr as expr;
-    ghost use Rattle.kat_ast.specs.contracts.stm.Stm as stm;
-    ghost use Rattle.kat_ast.specs.contracts.assertion.Assertion as assertion;
+    ghost use Rattle.kat_ast.specs.contracts.expr.Expr.{the_row as expr};
+    ghost use Rattle.kat_ast.specs.contracts.stm.Stm.{the_row as stm};
+    ghost use Rattle.kat_ast.specs.contracts.assertion.Assertion.{the_row as assertion};
     ghost use Rattle.std.specs.Coded.{codes};
 
     ghost Value = { DeclForm };
 
-    ghost coded = {
-        Prim.hlevel (codes, expr.the_row.coded, stm.the_row.coded, assertion.the_row.coded)
-    };
+    ghost coded = { Prim.hlevel (codes, expr.coded, stm.coded, assertion.coded) };
 
     ghost use Rattle.kat_ast.specs.Declarations.{IsDecl};
 
@@ -216,16 +214,14 @@ pub struct Spec {
 
 impl Model for Spec {
     ghost use Rattle.kat_ast.specs.Spec.{Spec as SpecForm};
-    ghost use Rattle.kat_ast.specs.contracts.expr.Expr as expr;
-    ghost use Rattle.kat_ast.specs.contracts.stm.Stm as stm;
-    ghost use Rattle.kat_ast.specs.contracts.assertion.Assertion as assertion;
+    ghost use Rattle.kat_ast.specs.contracts.expr.Expr.{the_row as expr};
+    ghost use Rattle.kat_ast.specs.contracts.stm.Stm.{the_row as stm};
+    ghost use Rattle.kat_ast.specs.contracts.assertion.Assertion.{the_row as assertion};
     ghost use Rattle.std.specs.Coded.{codes};
 
     ghost Value = { SpecForm };
 
-    ghost coded = {
-        Prim.hlevel (codes, expr.the_row.coded, stm.the_row.coded, assertion.the_row.coded)
-    };
+    ghost coded = { Prim.hlevel (codes, expr.coded, stm.coded, assertion.coded) };
 
     ghost use Rattle.kat_ast.specs.Specifications.{IsSpec};
 

@@ -1,8 +1,2 @@
-pub mod Lists
-pub mod Fitting
-pub mod SmallForms
-pub mod ExpressionForms
-pub mod StatementForms
-pub mod AssertionForms
-pub mod DeclarationForms
-pub mod SpecificationForms
+pub mod Forms
+pub mod Reading

@@ -1,20 +1,20 @@
 //! Declarations.
 
-ghost use Rattle.std.specs.Prelude.{◌≡◌, ◌-◌, ◌++◌, [], ◌∷◌, true, IfOk, length, map, replicate, codes};
+ghost use Rattle.std.specs.Prelude.{◌≡◌, ◌-◌, ◌++◌, [], ◌∷◌, IfOk, length, replicate, codes};
 ghost use Rattle.std.specs.List.{AllByRecursion};
-ghost use Rattle.kat_ast.specs.Parts.{every, word, form};
-ghost use Rattle.kat_ast.specs.Statements.{is_formed_stm, tree_of_stm};
+ghost use Rattle.kat_ast.specs.Parts.{word, form};
 ghost use Rattle.kat_ast.specs.Declarations.{word_of_register_kind, word_of_cells_kind};
-ghost use Rattle.kat_forms.specs.Parts.{FitsSort, HasParts};
-ghost use Rattle.kat_forms.specs.Forms.{IsHolding, IsPhase, IsWhen, IsDeclForm, AreWhens};
+ghost use Rattle.kat_grammar.specs.Parts.{FitsSort, HasParts};
+ghost use Rattle.kat_grammar.specs.Forms.{IsHolding, IsPhase, IsWhen, IsDeclForm, AreWhens, AreSteps};
 
-use crate::assertions::assertion_in;
-use crate::atoms::{name_in, number_in, only_name, part_of, parts_of, split, type_in};
-use crate::expressions::expr_in;
-use crate::params::{fields_in, members_in, numbers_in, params_in};
-use crate::statements::{stm_in, stms_in};
 use kat_ast::{Assertion, Block, CellsKind, DeclForm, Phase, RegisterKind, Stm, When};
+use kat_exprs::{
+    expr_in, fields_in, members_in, name_in, number_in, numbers_in, only_name, params_in, part_of,
+    parts_of, split, type_in,
+};
+use kat_grammar::{form_laws, small_lists};
 use kat_shapes::Sort;
+use kat_stms::{assertion_in, stm_in, stms_in};
 use kat_tree::{Token, Tree};
 use sqlite_items::Items;
 use std::alloc::{AllocError, Global};
@@ -24,6 +24,7 @@ pub(crate) fn decl_in(alloc: Global, tree: &Tree) -> Result<DeclForm, AllocError
     requires { FitsSort Sort.Declaration tree.now }
     ensures { IfOk result (λ d. IsDeclForm tree.now d) }
 {
+    form_laws();
     let Tree::List(parts) = tree else {
         unreachable!();
     };
@@ -140,9 +141,11 @@ fn cells_in(parts: &[Tree]) -> DeclForm
 
 /// `(code lo n ..)`
 fn code_in(alloc: Global, parts: &[Tree]) -> Result<DeclForm, AllocError>
-    requires { HasParts (Sort.Number ∷ Sort.Number ∷ replicate (length parts.now - 2) Sort.Number) parts.now }
+    requires { HasParts
+        (Sort.Number ∷ Sort.Number ∷ replicate (length parts.now - 2) Sort.Number) parts.now }
     ensures { IfOk result (λ d. IsDeclForm (form (codes "code") parts.now) d) }
 {
+    form_laws();
     let [lo, values @ ..] = parts else {
         unreachable!();
     };
@@ -205,6 +208,8 @@ fn contract_in(alloc: Global, parts: &[Tree]) -> Result<DeclForm, AllocError>
     requires { HasParts (Sort.Name ∷ Sort.Params ∷ Sort.Pre ∷ Sort.Res ∷ Sort.Post ∷ []) parts.now }
     ensures { IfOk result (λ d. IsDeclForm (form (codes "contract") parts.now) d) }
 {
+    form_laws();
+    small_lists();
     let [function, names, pre, res, post] = parts else {
         unreachable!();
     };
@@ -220,7 +225,8 @@ fn contract_in(alloc: Global, parts: &[Tree]) -> Result<DeclForm, AllocError>
 
 /// `(lemma x params params (pre A) (post A) (steps S ..))`
 fn lemma_in(alloc: Global, parts: &[Tree]) -> Result<DeclForm, AllocError>
-    requires { HasParts (Sort.Name ∷ Sort.Params ∷ Sort.Params ∷ Sort.Pre ∷ Sort.Post ∷ Sort.Steps ∷ []) parts.now }
+    requires { HasParts
+        (Sort.Name ∷ Sort.Params ∷ Sort.Params ∷ Sort.Pre ∷ Sort.Post ∷ Sort.Steps ∷ []) parts.now }
     ensures { IfOk result (λ d. IsDeclForm (form (codes "lemma") parts.now) d) }
 {
     let [name, params, names, pre, post, steps] = parts else {
@@ -250,6 +256,8 @@ fn dispatch_in(alloc: Global, parts: &[Tree]) -> Result<DeclForm, AllocError>
     requires { HasParts (replicate (length parts.now - 1) Sort.When ++ Sort.Else ∷ []) parts.now }
     ensures { IfOk result (λ d. IsDeclForm (form (codes "dispatch") parts.now) d) }
 {
+    form_laws();
+    small_lists();
     let [cases @ .., otherwise] = parts else {
         unreachable!();
     };
@@ -275,6 +283,8 @@ fn block_in(alloc: Global, parts: &[Tree]) -> Result<DeclForm, AllocError>
     requires { HasParts (Sort.Name ∷ Sort.Entry ∷ Sort.Within ∷ Sort.Change ∷ []) parts.now }
     ensures { IfOk result (λ d. IsDeclForm (form (codes "block") parts.now) d) }
 {
+    form_laws();
+    small_lists();
     let [name, entry, within, change] = parts else {
         unreachable!();
     };
@@ -302,8 +312,11 @@ fn conditions_in(
 ) -> Result<(Assertion, Assertion), AllocError>
     requires pre { FitsSort Sort.Pre pre.now }
     requires post { FitsSort Sort.Post post.now }
-    ensures { IfOk result (λ r. IsHolding (codes "pre") pre.now r.0 × IsHolding (codes "post") post.now r.1) }
+    ensures { IfOk result (λ r.
+        IsHolding (codes "pre") pre.now r.0 × IsHolding (codes "post") post.now r.1) }
 {
+    form_laws();
+    small_lists();
     let pre = assertion_in(alloc, part_of(pre))?;
     Ok((pre, assertion_in(alloc, part_of(post))?))
 }
@@ -342,6 +355,8 @@ fn phase_in(tree: &Tree) -> Result<Phase, AllocError>
     requires { FitsSort Sort.Phase tree.now }
     ensures { IfOk result (λ p. IsPhase tree.now p) }
 {
+    form_laws();
+    small_lists();
     match tree {
         Tree::Atom(Token::Name(name)) => match name.as_str() {
             "untrusted" => Ok(Phase::Untrusted),
@@ -357,6 +372,8 @@ fn when_in(alloc: Global, tree: &Tree) -> Result<When, AllocError>
     requires { FitsSort Sort.When tree.now }
     ensures { IfOk result (λ w. IsWhen tree.now w) }
 {
+    form_laws();
+    small_lists();
     let [test, phase] = parts_of(tree) else {
         unreachable!();
     };
@@ -371,6 +388,7 @@ fn whens_in(alloc: Global, trees: &[Tree]) -> Result<Items<When>, AllocError>
     requires { AllByRecursion (FitsSort Sort.When) trees.now }
     ensures { IfOk result (λ ws. AreWhens trees.now ws) }
 {
+    form_laws();
     let mut cases = Items::new(alloc);
     for tree in trees {
         cases.push(when_in(alloc, tree)?)?;
@@ -381,7 +399,9 @@ fn whens_in(alloc: Global, trees: &[Tree]) -> Result<Items<When>, AllocError>
 /// `(steps S ..)`
 fn steps_in(alloc: Global, tree: &Tree) -> Result<Items<Stm>, AllocError>
     requires { FitsSort Sort.Steps tree.now }
-    ensures { IfOk result (λ ss. (form (codes "steps") (map tree_of_stm ss) ≡ tree.now) × (every (map is_formed_stm ss) ≡ true)) }
+    ensures { IfOk result (λ ss. AreSteps tree.now ss) }
 {
+    form_laws();
+    small_lists();
     stms_in(alloc, parts_of(tree))
 }

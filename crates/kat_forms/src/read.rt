@@ -1,38 +1,36 @@
 //! Specifications, and declarations by themselves.
 
-ghost use Rattle.std.specs.Prelude.{◌≡◌, ◌<◌, List, map, IfOk, IfErr, MatchResult};
+ghost use Rattle.std.specs.Prelude.{◌≡◌, List, map, IfOk, IfErr, MatchResult};
 ghost use Rattle.std.specs.List.{AllByRecursion};
 ghost use Rattle.kat_tree.specs.declared.tree.Tree.{Tree};
 ghost use Rattle.kat_tree.specs.declared.tree.Tree.TheVariants as variant;
-ghost use Rattle.kat_tree.specs.Preorder.{count_of};
 ghost use Rattle.kat_tree.specs.Written.{IsWritable};
 ghost use Rattle.kat_ast.specs.declared.decl.DeclForm.{DeclForm};
-ghost use Rattle.kat_ast.specs.Limits.{decl_trees_bound};
 ghost use Rattle.kat_ast.specs.Spec.{Spec};
 ghost use Rattle.kat_ast.specs.Declarations.{tree_of_decl, IsDecl};
 ghost use Rattle.kat_ast.specs.Specifications.{Describes};
 ghost use Rattle.kat_shapes.specs.declared.misfit.Misfit.{Misfit as AnyMisfit};
 ghost use Rattle.kat_shapes.specs.Places.{AllHaveForm, IsFirstMisfit as IsFirstMisfitOf};
-ghost use Rattle.kat_forms.specs.Parts.{FitsSort, IsPartOfText};
+ghost use Rattle.kat_grammar.specs.Parts.{FitsSort, IsPartOfText, AreSmall};
 ghost use Rattle.kat_forms.specs.Reading.{DescribesDecl, IsFirstMisfit, IsFirstMisfitOfDecl, Names, Gives, GivesMisfit};
 
 use crate::declarations::decl_in;
 use crate::error::FormError;
-use crate::laws::written_fits;
-use kat_ast::{Decl, Spec, one_form};
+use kat_ast::{Decl, Spec};
+use kat_grammar::{form_laws, one_description, written_fits};
 use kat_shapes::{Misfit, Sort, judge, one_judgement};
-use kat_tree::{Tree, written_layers};
+use kat_tree::Tree;
+use kat_value::NEWEST;
 use sqlite_items::Items;
 use std::alloc::{AllocError, Global};
 
-/// The specification that a tree describes. It is a tree of a text: some bytes spell it. An error but `Memory` is the
-/// first tree, in preorder, that has no form where it stands: a list whose first word is no form there, or whose count
-/// of trees is not the form's, is refused itself, and else its parts are read in order. A number past the greatest of
-/// 64 bits stands still there.
+/// The specification that a tree describes. It is a tree of a text: some bytes spell it. An error
+/// but `Memory` is the first tree, in preorder, that has no form where it stands: a list whose
+/// first word is no form there, or whose count of trees is not the form's, is refused itself, and
+/// else its parts are read in order. A number past the greatest of 64 bits stands still there.
 pub fn read_spec(alloc: Global, tree: &Tree) -> Result<Spec, FormError>
     requires text { IsWritable tree.now }
-    requires small { (parts : List Tree) → tree.now ≡ variant.List parts →
-        AllByRecursion (λ (part : Tree). count_of part < decl_trees_bound) parts }
+    requires small { (parts : List Tree) → tree.now ≡ variant.List parts → AreSmall parts }
 
     // What is read is what the tree describes.
     ensures found { IfOk result (λ spec. Describes tree.now spec) }
@@ -42,17 +40,19 @@ pub fn read_spec(alloc: Global, tree: &Tree) -> Result<Spec, FormError>
     // A refusal names the first misfit.
     ensures refused { IfErr result (λ e. Names e (IsFirstMisfit tree.now)) }
     // The first misfit is the answer, unless memory runs out.
-    ensures first { (misfit : AnyMisfit) → IsFirstMisfit tree.now misfit → GivesMisfit result misfit }
+    ensures first { (misfit : AnyMisfit) →
+        IsFirstMisfit tree.now misfit → GivesMisfit result misfit }
 {
-    written_layers();
+    form_laws();
     written_fits();
-    one_form();
+    one_description();
     one_judgement();
     judged_spec(alloc, tree)
 }
 
-/// The declaration that a tree is by itself: one that may stand directly in the root of a text. Errors are those of
-/// `read_spec`; place 0 is the declaration.
+/// The declaration that a tree is by itself: one that may stand directly in the root of a text.
+/// Errors are those of `read_spec`; place 0 is the declaration. It may have each form of the newest
+/// version.
 pub fn read_decl(alloc: Global, tree: &Tree) -> Result<Decl, FormError>
     requires { IsPartOfText tree.now }
 
@@ -64,17 +64,19 @@ pub fn read_decl(alloc: Global, tree: &Tree) -> Result<Decl, FormError>
     // A refusal names the first misfit.
     ensures refused { IfErr result (λ e. Names e (IsFirstMisfitOfDecl tree.now)) }
     // The first misfit is the answer, unless memory runs out.
-    ensures first { (misfit : AnyMisfit) → IsFirstMisfitOfDecl tree.now misfit → GivesMisfit result misfit }
+    ensures first { (misfit : AnyMisfit) →
+        IsFirstMisfitOfDecl tree.now misfit → GivesMisfit result misfit }
 {
     written_fits();
-    one_form();
+    one_description();
     one_judgement();
     judged_decl(alloc, tree)
 }
 
 /// The specification of a tree, or its first misfit.
 fn judged_spec(alloc: Global, tree: &Tree) -> Result<Spec, FormError>
-    requires { (parts : List Tree) → tree.now ≡ variant.List parts → AllByRecursion IsPartOfText parts }
+    requires { (parts : List Tree) →
+        tree.now ≡ variant.List parts → AllByRecursion IsPartOfText parts }
     ensures { MatchResult result
         (λ spec. AllHaveForm Sort.Spec tree.now × Describes tree.now spec)
         (λ e. Names e (IsFirstMisfitOf Sort.Spec tree.now)) }
@@ -111,16 +113,18 @@ fn refusal(misfit: Misfit) -> FormError
 /// The specification that a tree of a text is.
 fn spec_in(alloc: Global, tree: &Tree) -> Result<Spec, AllocError>
     requires fits { FitsSort Sort.Spec tree.now }
-    requires text { (parts : List Tree) → tree.now ≡ variant.List parts → AllByRecursion IsPartOfText parts }
+    requires text { (parts : List Tree) →
+        tree.now ≡ variant.List parts → AllByRecursion IsPartOfText parts }
     ensures { IfOk result (λ spec. Describes tree.now spec) }
 {
+    form_laws();
     let Tree::List(parts) = tree else {
         unreachable!();
     };
     let [_, _, trees @ ..] = parts.as_slice() else {
         unreachable!();
     };
-    Ok(Spec::new(1, decls_in(alloc, trees)?))
+    Ok(Spec::new(NEWEST, decls_in(alloc, trees)?))
 }
 
 /// The declarations that trees of a text are.

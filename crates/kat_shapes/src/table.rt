@@ -2,7 +2,7 @@
 //! stands in `specs/Forms` too.
 
 ghost use Rattle.std.specs.Prelude.{◌≡◌};
-ghost use Rattle.std.specs.Option.{option_map, option_and_then};
+ghost use Rattle.std.specs.Option.{option_map};
 ghost use Rattle.kat_shapes.specs.Forms.{declarations, statements, expressions, operations, assertions, parts_of, forms_of, form_in, form_of, form_of_op, row_of, words_of};
 ghost use Rattle.kat_shapes.specs.Seen.{seen_form};
 

@@ -1,42 +1,40 @@
-use Rattle.std.proofs.Common.{[], ◌∷◌, ap, sym, ◌∙◌, arith}
+use Rattle.std.proofs.Common.{[], ◌∷◌, ap, ◌∙◌, arith}
 use Rattle.std.specs.Prelude.{codes}
 use Rattle.kat_tree.specs.declared.tree.Tree.TheVariants as variant
 use Rattle.kat_ast.specs.Parts.{word}
 use Rattle.kat_shapes.specs.declared.sort.Sort.TheVariants as sort
-use Rattle.kat_forms.proofs.Lists.{four, same4}
-use Rattle.kat_forms.proofs.Fitting.{held_part, holder, part_fits}
-use Rattle.kat_forms.proofs.SmallForms.{one_entry, one_within, one_change, no_entry, no_within, no_change}
-use Rattle.kat_forms.proofs.DeclarationForms.{Block-is}
+use Rattle.kat_forms.proofs.Forms.{Block-is}
 use Rattle.kat_forms.proofs.declarations.block_in.Goals as goal
 
 pub part_of-requires : goal.part_of-requires
-part_of-requires c = holder sort.Entry (codes "entry") sort.Assertion c.entry-item.result one_entry no_entry (part_fits (sort.Name ∷ sort.Entry ∷ sort.Within ∷ sort.Change ∷ []) c.args.parts.now 1 c.entry-item.result c.requires (omega arith) c.entry-item.is)
+part_of-requires c = c.form_laws.ensures.holder sort.Entry (codes "entry") sort.Assertion c.entry-item.result c.small_lists.ensures.one_entry c.small_lists.ensures.no_entry (c.form_laws.ensures.part_fits (sort.Name ∷ sort.Entry ∷ sort.Within ∷ sort.Change ∷ []) c.args.parts.now 1 c.entry-item.result c.requires (omega arith) c.entry-item.is)
 
 pub assertion_in-requires : goal.assertion_in-requires
-assertion_in-requires c = (held_part sort.Entry (codes "entry") sort.Assertion one_entry c.part_of.ensures.0 c.entry-item.result c.part_of.result.now c.part_of.ensures.1 (part_fits (sort.Name ∷ sort.Entry ∷ sort.Within ∷ sort.Change ∷ []) c.args.parts.now 1 c.entry-item.result c.requires (omega arith) c.entry-item.is)).1
+assertion_in-requires c = (c.form_laws.ensures.held_part sort.Entry (codes "entry") sort.Assertion c.small_lists.ensures.one_entry c.part_of.ensures.0 c.entry-item.result c.part_of.result.now c.part_of.ensures.1 (c.form_laws.ensures.part_fits (sort.Name ∷ sort.Entry ∷ sort.Within ∷ sort.Change ∷ []) c.args.parts.now 1 c.entry-item.result c.requires (omega arith) c.entry-item.is)).1
 
 pub part_of-requires-2 : goal.part_of-requires-2
-part_of-requires-2 c = holder sort.Within (codes "within") sort.Number c.within-item.result one_within no_within (part_fits (sort.Name ∷ sort.Entry ∷ sort.Within ∷ sort.Change ∷ []) c.args.parts.now 2 c.within-item.result c.requires (omega arith) c.within-item.is)
+part_of-requires-2 c = c.form_laws.ensures.holder sort.Within (codes "within") sort.Number c.within-item.result c.small_lists.ensures.one_within c.small_lists.ensures.no_within (c.form_laws.ensures.part_fits (sort.Name ∷ sort.Entry ∷ sort.Within ∷ sort.Change ∷ []) c.args.parts.now 2 c.within-item.result c.requires (omega arith) c.within-item.is)
 
 pub number_in-requires : goal.number_in-requires
-number_in-requires c = (held_part sort.Within (codes "within") sort.Number one_within c.part_of-2.ensures.0 c.within-item.result c.part_of-2.result.now c.part_of-2.ensures.1 (part_fits (sort.Name ∷ sort.Entry ∷ sort.Within ∷ sort.Change ∷ []) c.args.parts.now 2 c.within-item.result c.requires (omega arith) c.within-item.is)).1
+number_in-requires c = (c.form_laws.ensures.held_part sort.Within (codes "within") sort.Number c.small_lists.ensures.one_within c.part_of-2.ensures.0 c.within-item.result c.part_of-2.result.now c.part_of-2.ensures.1 (c.form_laws.ensures.part_fits (sort.Name ∷ sort.Entry ∷ sort.Within ∷ sort.Change ∷ []) c.args.parts.now 2 c.within-item.result c.requires (omega arith) c.within-item.is)).1
 
 pub part_of-requires-3 : goal.part_of-requires-3
-part_of-requires-3 c = holder sort.Change (codes "change") sort.Expression c.change-item.result one_change no_change (part_fits (sort.Name ∷ sort.Entry ∷ sort.Within ∷ sort.Change ∷ []) c.args.parts.now 3 c.change-item.result c.requires (omega arith) c.change-item.is)
+part_of-requires-3 c = c.form_laws.ensures.holder sort.Change (codes "change") sort.Expression c.change-item.result c.small_lists.ensures.one_change c.small_lists.ensures.no_change (c.form_laws.ensures.part_fits (sort.Name ∷ sort.Entry ∷ sort.Within ∷ sort.Change ∷ []) c.args.parts.now 3 c.change-item.result c.requires (omega arith) c.change-item.is)
 
 pub expr_in-requires : goal.expr_in-requires
-expr_in-requires c = (held_part sort.Change (codes "change") sort.Expression one_change c.part_of-3.ensures.0 c.change-item.result c.part_of-3.result.now c.part_of-3.ensures.1 (part_fits (sort.Name ∷ sort.Entry ∷ sort.Within ∷ sort.Change ∷ []) c.args.parts.now 3 c.change-item.result c.requires (omega arith) c.change-item.is)).1
+expr_in-requires c = (c.form_laws.ensures.held_part sort.Change (codes "change") sort.Expression c.small_lists.ensures.one_change c.part_of-3.ensures.0 c.change-item.result c.part_of-3.result.now c.part_of-3.ensures.1 (c.form_laws.ensures.part_fits (sort.Name ∷ sort.Entry ∷ sort.Within ∷ sort.Change ∷ []) c.args.parts.now 3 c.change-item.result c.requires (omega arith) c.change-item.is)).1
 
 pub returns : goal.returns
 returns c =
     let parts = c.args.parts.now in
-    let entry = held_part sort.Entry (codes "entry") sort.Assertion one_entry c.part_of.ensures.0 c.entry-item.result c.part_of.result.now c.part_of.ensures.1 (part_fits (sort.Name ∷ sort.Entry ∷ sort.Within ∷ sort.Change ∷ []) c.args.parts.now 1 c.entry-item.result c.requires (omega arith) c.entry-item.is) in
-    let within = held_part sort.Within (codes "within") sort.Number one_within c.part_of-2.ensures.0 c.within-item.result c.part_of-2.result.now c.part_of-2.ensures.1 (part_fits (sort.Name ∷ sort.Entry ∷ sort.Within ∷ sort.Change ∷ []) c.args.parts.now 2 c.within-item.result c.requires (omega arith) c.within-item.is) in
-    let change = held_part sort.Change (codes "change") sort.Expression one_change c.part_of-3.ensures.0 c.change-item.result c.part_of-3.result.now c.part_of-3.ensures.1 (part_fits (sort.Name ∷ sort.Entry ∷ sort.Within ∷ sort.Change ∷ []) c.args.parts.now 3 c.change-item.result c.requires (omega arith) c.change-item.is) in
+    let entry = c.form_laws.ensures.held_part sort.Entry (codes "entry") sort.Assertion c.small_lists.ensures.one_entry c.part_of.ensures.0 c.entry-item.result c.part_of.result.now c.part_of.ensures.1 (c.form_laws.ensures.part_fits (sort.Name ∷ sort.Entry ∷ sort.Within ∷ sort.Change ∷ []) c.args.parts.now 1 c.entry-item.result c.requires (omega arith) c.entry-item.is) in
+    let within = c.form_laws.ensures.held_part sort.Within (codes "within") sort.Number c.small_lists.ensures.one_within c.part_of-2.ensures.0 c.within-item.result c.part_of-2.result.now c.part_of-2.ensures.1 (c.form_laws.ensures.part_fits (sort.Name ∷ sort.Entry ∷ sort.Within ∷ sort.Change ∷ []) c.args.parts.now 2 c.within-item.result c.requires (omega arith) c.within-item.is) in
+    let change = c.form_laws.ensures.held_part sort.Change (codes "change") sort.Expression c.small_lists.ensures.one_change c.part_of-3.ensures.0 c.change-item.result c.part_of-3.result.now c.part_of-3.ensures.1 (c.form_laws.ensures.part_fits (sort.Name ∷ sort.Entry ∷ sort.Within ∷ sort.Change ∷ []) c.args.parts.now 3 c.change-item.result c.requires (omega arith) c.change-item.is) in
     Block-is parts c.in_ok-name_in.field-0 c.in_ok-assertion_in.field-0 c.number_in.result c.in_ok-expr_in.field-0
-    (same4 c.in_ok-name_in.ensures.0
+    (c.form_laws.ensures.four_are parts c.name-item.result c.entry-item.result c.within-item.result c.change-item.result _ _ _ _ c.requires.count
+    c.name-item.is c.entry-item.is c.within-item.is c.change-item.is
+    c.in_ok-name_in.ensures.0
     (ap (λ t. variant.List (word (codes "entry") ∷ t ∷ [])) c.in_ok-assertion_in.ensures.0 ∙ entry.0)
     (ap (λ t. variant.List (word (codes "within") ∷ t ∷ [])) c.number_in.ensures ∙ within.0)
-    (ap (λ t. variant.List (word (codes "change") ∷ t ∷ [])) c.in_ok-expr_in.ensures.0 ∙ change.0)
-    ∙ sym (four parts c.name-item.result c.entry-item.result c.within-item.result c.change-item.result c.requires.count c.name-item.is c.entry-item.is c.within-item.is c.change-item.is))
+    (ap (λ t. variant.List (word (codes "change") ∷ t ∷ [])) c.in_ok-expr_in.ensures.0 ∙ change.0))
     c.in_ok-name_in.ensures.1 c.in_ok-assertion_in.ensures.1 c.in_ok-expr_in.ensures.1

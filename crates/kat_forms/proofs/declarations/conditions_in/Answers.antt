@@ -3,28 +3,26 @@ use Rattle.std.specs.Prelude.{codes}
 use Rattle.kat_tree.specs.declared.tree.Tree.TheVariants as variant
 use Rattle.kat_shapes.specs.declared.sort.Sort.TheVariants as sort
 use Rattle.kat_ast.specs.Parts.{word}
-use Rattle.kat_forms.proofs.Fitting.{held_part, holder}
-use Rattle.kat_forms.proofs.SmallForms.{one_pre, one_post, no_pre, no_post}
 use Rattle.kat_forms.proofs.declarations.conditions_in.Goals as goal
 
 pub part_of-requires : goal.part_of-requires
-part_of-requires c = holder sort.Pre (codes "pre") sort.Assertion c.args.pre.now one_pre no_pre c.requires.pre
+part_of-requires c = c.form_laws.ensures.holder sort.Pre (codes "pre") sort.Assertion c.args.pre.now c.small_lists.ensures.one_pre c.small_lists.ensures.no_pre c.requires.pre
 
 pub assertion_in-requires : goal.assertion_in-requires
 assertion_in-requires c =
-    (held_part sort.Pre (codes "pre") sort.Assertion one_pre c.part_of.ensures.0 c.args.pre.now c.part_of.result.now c.part_of.ensures.1 c.requires.pre).1
+    (c.form_laws.ensures.held_part sort.Pre (codes "pre") sort.Assertion c.small_lists.ensures.one_pre c.part_of.ensures.0 c.args.pre.now c.part_of.result.now c.part_of.ensures.1 c.requires.pre).1
 
 pub part_of-requires-2 : goal.part_of-requires-2
-part_of-requires-2 c = holder sort.Post (codes "post") sort.Assertion c.args.post.now one_post no_post c.requires.post
+part_of-requires-2 c = c.form_laws.ensures.holder sort.Post (codes "post") sort.Assertion c.args.post.now c.small_lists.ensures.one_post c.small_lists.ensures.no_post c.requires.post
 
 pub assertion_in-requires-2 : goal.assertion_in-requires-2
 assertion_in-requires-2 c =
-    (held_part sort.Post (codes "post") sort.Assertion one_post c.part_of-2.ensures.0 c.args.post.now c.part_of-2.result.now c.part_of-2.ensures.1 c.requires.post).1
+    (c.form_laws.ensures.held_part sort.Post (codes "post") sort.Assertion c.small_lists.ensures.one_post c.part_of-2.ensures.0 c.args.post.now c.part_of-2.result.now c.part_of-2.ensures.1 c.requires.post).1
 
 pub returns : goal.returns
 returns c =
-    let pre = held_part sort.Pre (codes "pre") sort.Assertion one_pre c.part_of.ensures.0 c.args.pre.now c.part_of.result.now c.part_of.ensures.1 c.requires.pre in
-    let post = held_part sort.Post (codes "post") sort.Assertion one_post c.part_of-2.ensures.0 c.args.post.now c.part_of-2.result.now c.part_of-2.ensures.1 c.requires.post in (
+    let pre = c.form_laws.ensures.held_part sort.Pre (codes "pre") sort.Assertion c.small_lists.ensures.one_pre c.part_of.ensures.0 c.args.pre.now c.part_of.result.now c.part_of.ensures.1 c.requires.pre in
+    let post = c.form_laws.ensures.held_part sort.Post (codes "post") sort.Assertion c.small_lists.ensures.one_post c.part_of-2.ensures.0 c.args.post.now c.part_of-2.result.now c.part_of-2.ensures.1 c.requires.post in (
       (ap (λ t. variant.List (word (codes "pre") ∷ t ∷ [])) c.in_ok-pre.ensures.0 ∙ pre.0, c.in_ok-pre.ensures.1),
       (ap (λ t. variant.List (word (codes "post") ∷ t ∷ [])) c.in_ok-assertion_in.ensures.0 ∙ post.0, c.in_ok-assertion_in.ensures.1),
     )

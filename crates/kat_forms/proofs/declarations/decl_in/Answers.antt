@@ -3,60 +3,59 @@ use Rattle.std.proofs.Common.{[], ◌∷◌, refl, ap, sym, subst, ◌∙◌}
 use Rattle.std.specs.Prelude.{codes}
 use Rattle.kat_tree.specs.declared.tree.Tree.TheVariants as variant
 use Rattle.kat_shapes.specs.declared.sort.Sort.TheVariants as sort
-use Rattle.kat_forms.specs.Parts.{FitsSort}
-use Rattle.kat_forms.proofs.Fitting.{arm_fits, between_parts, exact_parts, headed, many_parts}
+use Rattle.kat_grammar.specs.Parts.{FitsSort}
 use Rattle.kat_forms.proofs.declarations.decl_in.Goals as goal
 
 pub split-requires : goal.split-requires
-split-requires c = headed sort.Declaration c.as_slice.result.now refl (subst (FitsSort sort.Declaration) (c.in-List.is ∙ ap variant.List (sym c.as_slice.ensures)) c.requires)
+split-requires c = c.form_laws.ensures.headed sort.Declaration c.as_slice.result.now refl (subst (FitsSort sort.Declaration) (c.in-List.is ∙ ap variant.List (sym c.as_slice.ensures)) c.requires)
 
 pub enum_in-requires : goal.enum_in-requires
-enum_in-requires c = exact_parts sort.Declaration (codes "enum") (sort.Name ∷ sort.Members ∷ []) _ refl (arm_fits sort.Declaration (codes "enum") _ _ _ c.split.ensures c.in-enum.is (subst (FitsSort sort.Declaration) (c.in-List.is ∙ ap variant.List (sym c.as_slice.ensures)) c.requires))
+enum_in-requires c = c.form_laws.ensures.exact_parts sort.Declaration (codes "enum") (sort.Name ∷ sort.Members ∷ []) _ refl (c.form_laws.ensures.arm_fits sort.Declaration (codes "enum") _ _ _ c.split.ensures c.in-enum.is (subst (FitsSort sort.Declaration) (c.in-List.is ∙ ap variant.List (sym c.as_slice.ensures)) c.requires))
 
 pub union_in-requires : goal.union_in-requires
-union_in-requires c = exact_parts sort.Declaration (codes "union") (sort.Name ∷ sort.Fields ∷ []) _ refl (arm_fits sort.Declaration (codes "union") _ _ _ c.split.ensures c.in-union.is (subst (FitsSort sort.Declaration) (c.in-List.is ∙ ap variant.List (sym c.as_slice.ensures)) c.requires))
+union_in-requires c = c.form_laws.ensures.exact_parts sort.Declaration (codes "union") (sort.Name ∷ sort.Fields ∷ []) _ refl (c.form_laws.ensures.arm_fits sort.Declaration (codes "union") _ _ _ c.split.ensures c.in-union.is (subst (FitsSort sort.Declaration) (c.in-List.is ∙ ap variant.List (sym c.as_slice.ensures)) c.requires))
 
 pub record_in-requires : goal.record_in-requires
-record_in-requires c = exact_parts sort.Declaration (codes "record") (sort.Name ∷ sort.Fields ∷ []) _ refl (arm_fits sort.Declaration (codes "record") _ _ _ c.split.ensures c.in-record.is (subst (FitsSort sort.Declaration) (c.in-List.is ∙ ap variant.List (sym c.as_slice.ensures)) c.requires))
+record_in-requires c = c.form_laws.ensures.exact_parts sort.Declaration (codes "record") (sort.Name ∷ sort.Fields ∷ []) _ refl (c.form_laws.ensures.arm_fits sort.Declaration (codes "record") _ _ _ c.split.ensures c.in-record.is (subst (FitsSort sort.Declaration) (c.in-List.is ∙ ap variant.List (sym c.as_slice.ensures)) c.requires))
 
 pub register_in-requires : goal.register_in-requires
-register_in-requires c = exact_parts sort.Declaration (codes "register") (sort.Name ∷ sort.TypeName ∷ sort.RegisterPlace ∷ []) _ refl (arm_fits sort.Declaration (codes "register") _ _ _ c.split.ensures c.in-register.is (subst (FitsSort sort.Declaration) (c.in-List.is ∙ ap variant.List (sym c.as_slice.ensures)) c.requires))
+register_in-requires c = c.form_laws.ensures.exact_parts sort.Declaration (codes "register") (sort.Name ∷ sort.TypeName ∷ sort.RegisterPlace ∷ []) _ refl (c.form_laws.ensures.arm_fits sort.Declaration (codes "register") _ _ _ c.split.ensures c.in-register.is (subst (FitsSort sort.Declaration) (c.in-List.is ∙ ap variant.List (sym c.as_slice.ensures)) c.requires))
 
 pub memory_in-requires : goal.memory_in-requires
-memory_in-requires c = exact_parts sort.Declaration (codes "memory") (sort.Number ∷ sort.Number ∷ sort.Number ∷ sort.Number ∷ []) _ refl (arm_fits sort.Declaration (codes "memory") _ _ _ c.split.ensures c.in-memory.is (subst (FitsSort sort.Declaration) (c.in-List.is ∙ ap variant.List (sym c.as_slice.ensures)) c.requires))
+memory_in-requires c = c.form_laws.ensures.exact_parts sort.Declaration (codes "memory") (sort.Number ∷ sort.Number ∷ sort.Number ∷ sort.Number ∷ []) _ refl (c.form_laws.ensures.arm_fits sort.Declaration (codes "memory") _ _ _ c.split.ensures c.in-memory.is (subst (FitsSort sort.Declaration) (c.in-List.is ∙ ap variant.List (sym c.as_slice.ensures)) c.requires))
 
 pub cells_in-requires : goal.cells_in-requires
-cells_in-requires c = exact_parts sort.Declaration (codes "cells") (sort.CellsPlace ∷ sort.Number ∷ sort.Number ∷ []) _ refl (arm_fits sort.Declaration (codes "cells") _ _ _ c.split.ensures c.in-cells.is (subst (FitsSort sort.Declaration) (c.in-List.is ∙ ap variant.List (sym c.as_slice.ensures)) c.requires))
+cells_in-requires c = c.form_laws.ensures.exact_parts sort.Declaration (codes "cells") (sort.CellsPlace ∷ sort.Number ∷ sort.Number ∷ []) _ refl (c.form_laws.ensures.arm_fits sort.Declaration (codes "cells") _ _ _ c.split.ensures c.in-cells.is (subst (FitsSort sort.Declaration) (c.in-List.is ∙ ap variant.List (sym c.as_slice.ensures)) c.requires))
 
 pub code_in-requires : goal.code_in-requires
-code_in-requires c = many_parts sort.Declaration (codes "code") (sort.Number ∷ sort.Number ∷ []) sort.Number _ refl (arm_fits sort.Declaration (codes "code") _ _ _ c.split.ensures c.in-code.is (subst (FitsSort sort.Declaration) (c.in-List.is ∙ ap variant.List (sym c.as_slice.ensures)) c.requires))
+code_in-requires c = c.form_laws.ensures.many_parts sort.Declaration (codes "code") (sort.Number ∷ sort.Number ∷ []) sort.Number _ refl (c.form_laws.ensures.arm_fits sort.Declaration (codes "code") _ _ _ c.split.ensures c.in-code.is (subst (FitsSort sort.Declaration) (c.in-List.is ∙ ap variant.List (sym c.as_slice.ensures)) c.requires))
 
 pub region_in-requires : goal.region_in-requires
-region_in-requires c = exact_parts sort.Declaration (codes "region") (sort.Name ∷ sort.Params ∷ sort.Name ∷ sort.Expression ∷ []) _ refl (arm_fits sort.Declaration (codes "region") _ _ _ c.split.ensures c.in-region.is (subst (FitsSort sort.Declaration) (c.in-List.is ∙ ap variant.List (sym c.as_slice.ensures)) c.requires))
+region_in-requires c = c.form_laws.ensures.exact_parts sort.Declaration (codes "region") (sort.Name ∷ sort.Params ∷ sort.Name ∷ sort.Expression ∷ []) _ refl (c.form_laws.ensures.arm_fits sort.Declaration (codes "region") _ _ _ c.split.ensures c.in-region.is (subst (FitsSort sort.Declaration) (c.in-List.is ∙ ap variant.List (sym c.as_slice.ensures)) c.requires))
 
 pub predicate_in-requires : goal.predicate_in-requires
-predicate_in-requires c = exact_parts sort.Declaration (codes "pred") (sort.Name ∷ sort.Params ∷ sort.Params ∷ sort.Assertion ∷ []) _ refl (arm_fits sort.Declaration (codes "pred") _ _ _ c.split.ensures c.in-pred.is (subst (FitsSort sort.Declaration) (c.in-List.is ∙ ap variant.List (sym c.as_slice.ensures)) c.requires))
+predicate_in-requires c = c.form_laws.ensures.exact_parts sort.Declaration (codes "pred") (sort.Name ∷ sort.Params ∷ sort.Params ∷ sort.Assertion ∷ []) _ refl (c.form_laws.ensures.arm_fits sort.Declaration (codes "pred") _ _ _ c.split.ensures c.in-pred.is (subst (FitsSort sort.Declaration) (c.in-List.is ∙ ap variant.List (sym c.as_slice.ensures)) c.requires))
 
 pub fun_in-requires : goal.fun_in-requires
-fun_in-requires c = exact_parts sort.Declaration (codes "fun") (sort.Name ∷ sort.Params ∷ sort.TypeName ∷ sort.Statement ∷ []) _ refl (arm_fits sort.Declaration (codes "fun") _ _ _ c.split.ensures c.in-fun.is (subst (FitsSort sort.Declaration) (c.in-List.is ∙ ap variant.List (sym c.as_slice.ensures)) c.requires))
+fun_in-requires c = c.form_laws.ensures.exact_parts sort.Declaration (codes "fun") (sort.Name ∷ sort.Params ∷ sort.TypeName ∷ sort.Statement ∷ []) _ refl (c.form_laws.ensures.arm_fits sort.Declaration (codes "fun") _ _ _ c.split.ensures c.in-fun.is (subst (FitsSort sort.Declaration) (c.in-List.is ∙ ap variant.List (sym c.as_slice.ensures)) c.requires))
 
 pub contract_in-requires : goal.contract_in-requires
-contract_in-requires c = exact_parts sort.Declaration (codes "contract") (sort.Name ∷ sort.Params ∷ sort.Pre ∷ sort.Res ∷ sort.Post ∷ []) _ refl (arm_fits sort.Declaration (codes "contract") _ _ _ c.split.ensures c.in-contract.is (subst (FitsSort sort.Declaration) (c.in-List.is ∙ ap variant.List (sym c.as_slice.ensures)) c.requires))
+contract_in-requires c = c.form_laws.ensures.exact_parts sort.Declaration (codes "contract") (sort.Name ∷ sort.Params ∷ sort.Pre ∷ sort.Res ∷ sort.Post ∷ []) _ refl (c.form_laws.ensures.arm_fits sort.Declaration (codes "contract") _ _ _ c.split.ensures c.in-contract.is (subst (FitsSort sort.Declaration) (c.in-List.is ∙ ap variant.List (sym c.as_slice.ensures)) c.requires))
 
 pub lemma_in-requires : goal.lemma_in-requires
-lemma_in-requires c = exact_parts sort.Declaration (codes "lemma") (sort.Name ∷ sort.Params ∷ sort.Params ∷ sort.Pre ∷ sort.Post ∷ sort.Steps ∷ []) _ refl (arm_fits sort.Declaration (codes "lemma") _ _ _ c.split.ensures c.in-lemma.is (subst (FitsSort sort.Declaration) (c.in-List.is ∙ ap variant.List (sym c.as_slice.ensures)) c.requires))
+lemma_in-requires c = c.form_laws.ensures.exact_parts sort.Declaration (codes "lemma") (sort.Name ∷ sort.Params ∷ sort.Params ∷ sort.Pre ∷ sort.Post ∷ sort.Steps ∷ []) _ refl (c.form_laws.ensures.arm_fits sort.Declaration (codes "lemma") _ _ _ c.split.ensures c.in-lemma.is (subst (FitsSort sort.Declaration) (c.in-List.is ∙ ap variant.List (sym c.as_slice.ensures)) c.requires))
 
 pub step_in-requires : goal.step_in-requires
-step_in-requires c = exact_parts sort.Declaration (codes "step") (sort.Name ∷ []) _ refl (arm_fits sort.Declaration (codes "step") _ _ _ c.split.ensures c.in-step.is (subst (FitsSort sort.Declaration) (c.in-List.is ∙ ap variant.List (sym c.as_slice.ensures)) c.requires))
+step_in-requires c = c.form_laws.ensures.exact_parts sort.Declaration (codes "step") (sort.Name ∷ []) _ refl (c.form_laws.ensures.arm_fits sort.Declaration (codes "step") _ _ _ c.split.ensures c.in-step.is (subst (FitsSort sort.Declaration) (c.in-List.is ∙ ap variant.List (sym c.as_slice.ensures)) c.requires))
 
 pub dispatch_in-requires : goal.dispatch_in-requires
-dispatch_in-requires c = between_parts sort.Declaration (codes "dispatch") sort.When sort.Else _ refl (arm_fits sort.Declaration (codes "dispatch") _ _ _ c.split.ensures c.in-dispatch.is (subst (FitsSort sort.Declaration) (c.in-List.is ∙ ap variant.List (sym c.as_slice.ensures)) c.requires))
+dispatch_in-requires c = c.form_laws.ensures.between_parts sort.Declaration (codes "dispatch") sort.When sort.Else _ refl (c.form_laws.ensures.arm_fits sort.Declaration (codes "dispatch") _ _ _ c.split.ensures c.in-dispatch.is (subst (FitsSort sort.Declaration) (c.in-List.is ∙ ap variant.List (sym c.as_slice.ensures)) c.requires))
 
 pub untrusted_in-requires : goal.untrusted_in-requires
-untrusted_in-requires c = exact_parts sort.Declaration (codes "untrusted") (sort.Assertion ∷ []) _ refl (arm_fits sort.Declaration (codes "untrusted") _ _ _ c.split.ensures c.in-untrusted.is (subst (FitsSort sort.Declaration) (c.in-List.is ∙ ap variant.List (sym c.as_slice.ensures)) c.requires))
+untrusted_in-requires c = c.form_laws.ensures.exact_parts sort.Declaration (codes "untrusted") (sort.Assertion ∷ []) _ refl (c.form_laws.ensures.arm_fits sort.Declaration (codes "untrusted") _ _ _ c.split.ensures c.in-untrusted.is (subst (FitsSort sort.Declaration) (c.in-List.is ∙ ap variant.List (sym c.as_slice.ensures)) c.requires))
 
 pub block_in-requires : goal.block_in-requires
-block_in-requires c = exact_parts sort.Declaration (codes "block") (sort.Name ∷ sort.Entry ∷ sort.Within ∷ sort.Change ∷ []) _ refl (arm_fits sort.Declaration (codes "block") _ _ _ c.split.ensures c.in-block.is (subst (FitsSort sort.Declaration) (c.in-List.is ∙ ap variant.List (sym c.as_slice.ensures)) c.requires))
+block_in-requires c = c.form_laws.ensures.exact_parts sort.Declaration (codes "block") (sort.Name ∷ sort.Entry ∷ sort.Within ∷ sort.Change ∷ []) _ refl (c.form_laws.ensures.arm_fits sort.Declaration (codes "block") _ _ _ c.split.ensures c.in-block.is (subst (FitsSort sort.Declaration) (c.in-List.is ∙ ap variant.List (sym c.as_slice.ensures)) c.requires))
 
 pub boot_in-requires : goal.boot_in-requires
-boot_in-requires c = exact_parts sort.Declaration (codes "boot") (sort.Name ∷ []) _ refl (arm_fits sort.Declaration (codes "boot") _ _ _ c.split.ensures c.in-boot.is (subst (FitsSort sort.Declaration) (c.in-List.is ∙ ap variant.List (sym c.as_slice.ensures)) c.requires))
+boot_in-requires c = c.form_laws.ensures.exact_parts sort.Declaration (codes "boot") (sort.Name ∷ []) _ refl (c.form_laws.ensures.arm_fits sort.Declaration (codes "boot") _ _ _ c.split.ensures c.in-boot.is (subst (FitsSort sort.Declaration) (c.in-List.is ∙ ap variant.List (sym c.as_slice.ensures)) c.requires))

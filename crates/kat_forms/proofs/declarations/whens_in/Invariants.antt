@@ -1,5 +1,5 @@
 use Rattle.kat_ast.specs.Declarations.{is_formed_when, tree_of_when}
-use Rattle.kat_forms.proofs.Lists.{SoFar}
+use Rattle.kat_grammar.specs.Parts.{SoFar}
 use Rattle.kat_forms.proofs.declarations.whens_in.Given as goal
 
 abbrev pub invariant-loop-tree : goal.invariant-loop-tree

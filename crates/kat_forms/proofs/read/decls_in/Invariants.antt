@@ -1,4 +1,4 @@
-use Rattle.kat_forms.proofs.SpecificationForms.{Made}
+use Rattle.kat_forms.proofs.Reading.{Made}
 use Rattle.kat_forms.proofs.read.decls_in.Given as goal
 
 abbrev pub invariant-loop-tree : goal.invariant-loop-tree

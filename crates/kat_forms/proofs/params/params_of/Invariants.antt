@@ -1,6 +1,0 @@
-use Rattle.kat_ast.specs.Types.{is_formed_param, tree_of_param}
-use Rattle.kat_forms.proofs.Lists.{SoFar}
-use Rattle.kat_forms.proofs.params.params_of.Given as goal
-
-abbrev pub invariant-loop-tree : goal.invariant-loop-tree
-invariant-loop-tree l = SoFar tree_of_param is_formed_param l.trees l.params l.tree-index
