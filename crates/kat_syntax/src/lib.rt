@@ -7,6 +7,7 @@ mod checked;
 mod laws;
 mod limits;
 mod tables;
+mod type_rule;
 
 pub use checked::{Checked, StepFunction};
 pub use kat_ast::{
@@ -17,3 +18,4 @@ pub use kat_ast::{
 pub use laws::{statements_do_their_parts, typed_specifications_have_tables};
 pub use limits::MOST_DECLARATIONS;
 pub use tables::is_function;
+pub use type_rule::TypeRule;
