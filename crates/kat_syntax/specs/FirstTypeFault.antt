@@ -1,12 +1,12 @@
 -- Which specifications are typed, and the first fault of the others: the least in the order of
 -- declaration, tree and condition.
-use Rattle.std.specs.Prelude.{◌≡◌, ℕ, ◌+◌, ◌++◌, List, [], ◌∷◌, length, Option, None, Some}
+use Rattle.std.specs.Prelude.{◌≡◌, ◌⊎◌, ℕ, ◌+◌, ◌++◌, List, [], ◌∷◌, length, Option, None, Some}
 use Rattle.std.specs.List.{list_any, AllByRecursion}
 use Rattle.kat_ast.specs.declared.decl.DeclForm.{DeclForm}
 use Rattle.kat_ast.specs.Spec.{Spec}
 use Rattle.kat_syntax.specs.declared.type_rule.TypeRule.{TypeRule}
 use Rattle.kat_syntax.specs.declared.type_rule.TypeRule.TheVariants.{NotOnce}
-use Rattle.kat_syntax.specs.TypeRules.{Fault, least_of, unless}
+use Rattle.kat_syntax.specs.TypeRules.{Fault, IsLeastOf, least_of, unless}
 use Rattle.kat_syntax.specs.TypingDeclarations.{decl_faults, is_step, is_dispatch, is_untrusted, is_boot}
 
 -- a fault of a specification: its declaration, its tree in the declaration, and the condition
@@ -52,3 +52,15 @@ first_from k (faults ∷ more) = or_first k (least_of faults) (first_from (k + 1
 -- the first fault of a specification, if it has one
 abbrev pub first_type_fault : Spec → Option TypeFault
 first_type_fault spec = first_from 0 (type_faults spec)
+
+-- a fault stands in the first of these declarations that has any, the first of them having the
+-- number k, and is the least there
+abbrev pub IsFirstFrom : ℕ → List (List Fault) → TypeFault → Type 0
+IsFirstFrom k [] found = ⊥
+IsFirstFrom k (faults ∷ more) found =
+    ((found.decl ≡ k) × IsLeastOf faults (record { tree = found.tree; rule = found.rule }))
+    ⊎ ((faults ≡ []) × IsFirstFrom (k + 1) more found)
+
+-- a fault is the first of a specification
+abbrev pub IsFirstTypeFault : Spec → TypeFault → Type 0
+IsFirstTypeFault spec found = IsFirstFrom 0 (type_faults spec) found

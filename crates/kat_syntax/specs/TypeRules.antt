@@ -1,5 +1,6 @@
 -- The conditions of typing, their numbers, and the order of faults.
-use Rattle.std.specs.Prelude.{ℕ, ◌==◌, ◌&&◌, ◌||◌, nat_lt, Bool, if◌then◌else◌, List, [], ◌∷◌, Option, None, Some}
+use Rattle.std.specs.Prelude.{◌≡◌, ◌⊎◌, ℕ, ◌==◌, ◌&&◌, ◌||◌, nat_lt, Bool, false, if◌then◌else◌, List, [], ◌∷◌, Option, None, Some}
+use Rattle.std.specs.List.{AllByRecursion}
 use Rattle.kat_syntax.specs.declared.type_rule.TypeRule.{TypeRule}
 use Rattle.kat_syntax.specs.declared.type_rule.TypeRule.TheVariants.{NameTaken, TypeUnknown, NoWidth, NameUnknown, LiteralLarge, TypeOther, CountOther, SliceOutside, WidthOther, NotListed, BranchesDiffer, BodyOther, MemoryMissing, MemoryBounds, RangeOutside, CellTaken, OutsideNotBits, NotHere, UsedBefore, NotProof, NotOnce, WithinOutside, TooMany, ContractTwice}
 
@@ -58,3 +59,13 @@ least_of faults = least_with None faults
 -- a fault of this condition at this tree, unless it is met
 abbrev pub unless : Bool → ℕ → TypeRule → List Fault
 unless met tree rule = if met then [] else record { tree = tree; rule = rule } ∷ []
+
+-- a fault is one of some
+abbrev pub IsAmong : List Fault → Fault → Type 0
+IsAmong [] fault = ⊥
+IsAmong (other ∷ faults) fault = (other ≡ fault) ⊎ IsAmong faults fault
+
+-- a fault is one of some, and none of them comes before it
+pub record IsLeastOf (faults : List Fault) (fault : Fault) : Type 0 where
+  pub one : IsAmong faults fault
+  pub least : AllByRecursion (λ other. comes_before other fault ≡ false) faults
