@@ -66,9 +66,8 @@ least_from known [] = record { before = same_numbers known.tree (code_of known.r
 least_from known (fault ∷ faults) =
     elim (comes_before fault known)
     as (λ b. (comes_before fault known ≡ b)
-    → IfSome (least_with (if b then Some fault else Some known) faults) (IsLeastWith known (fault ∷ faults)))
-    [
-      true ↦ λ e. take_found known fault faults (least_with (Some fault) faults) e (least_from fault faults)
+    → IfSome (least_with (if b then Some fault else Some known) faults) (IsLeastWith known (fault ∷ faults))) [
+      | true ↦ λ e. take_found known fault faults (least_with (Some fault) faults) e (least_from fault faults)
       | false ↦ λ e. keep_found known fault faults (least_with (Some known) faults) e (least_from known faults)
     ] refl
 
