@@ -21,3 +21,4 @@ pub mod TypingStatements
 pub mod TypingAssertions
 pub mod TypingDeclarations
 pub mod FirstTypeFault
+pub mod Modes
