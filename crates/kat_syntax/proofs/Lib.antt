@@ -3,3 +3,4 @@ pub mod MeaningLaws
 pub mod TypingLaws
 pub mod Functions
 pub mod Registers
+pub mod FirstFaults

@@ -11,3 +11,14 @@ pub mod StateText
 pub mod MeaningByParts
 pub mod Typing
 pub mod Runnable
+pub mod TypeRules
+pub mod Declares
+pub mod Around
+pub mod Memories
+pub mod TypesWritten
+pub mod TypingExpressions
+pub mod TypingStatements
+pub mod TypingAssertions
+pub mod TypingDeclarations
+pub mod FirstTypeFault
+pub mod Modes

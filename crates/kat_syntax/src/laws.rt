@@ -1,8 +1,10 @@
 //! What holds of meanings and of specifications without faults of typing. A function here does
 //! nothing: its contract is the law.
 
+ghost use Rattle.std.specs.Prelude.{MatchOption};
 ghost use Rattle.kat_ast.specs.Spec.{Spec};
 ghost use Rattle.kat_syntax.specs.MeaningByParts.{LetByParts, IfByParts, PartsAreCounted};
+ghost use Rattle.kat_syntax.specs.FirstTypeFault.{IsTyped as IsTypedWhole, IsFirstTypeFault, first_type_fault};
 ghost use Rattle.kat_syntax.specs.Runnable.{IsTyped, IsRunnable, HasCleanDecls, HasDistinctRegisters, HasStepFunction};
 
 /// What a `let` or an `if` does is what its parts do: the first statement and then the second, or
@@ -21,4 +23,11 @@ pub fn typed_specifications_have_tables()
     ensures decls { (spec : Spec) → IsTyped spec → HasCleanDecls spec }
     ensures registers { (spec : Spec) → IsTyped spec → HasDistinctRegisters spec }
     ensures step { (spec : Spec) → IsRunnable spec → HasStepFunction spec }
+{}
+
+/// The first fault of a specification is the least, by tree and condition, of the first declaration
+/// that has any; where there is none, the specification is typed.
+pub fn first_faults_are_least()
+    ensures { (spec : Spec) →
+        MatchOption (first_type_fault spec) (IsTypedWhole spec) (IsFirstTypeFault spec) }
 {}

@@ -7,6 +7,7 @@ mod checked;
 mod laws;
 mod limits;
 mod tables;
+mod type_rule;
 
 pub use checked::{Checked, StepFunction};
 pub use kat_ast::{
@@ -14,6 +15,9 @@ pub use kat_ast::{
     RegisterKind, Spec, Stm, TypeName, When, count_expr, count_stm, one_form, one_reading,
     places_are_of_the_tree, specifications_can_be_written,
 };
-pub use laws::{statements_do_their_parts, typed_specifications_have_tables};
+pub use laws::{
+    first_faults_are_least, statements_do_their_parts, typed_specifications_have_tables,
+};
 pub use limits::MOST_DECLARATIONS;
 pub use tables::is_function;
+pub use type_rule::TypeRule;
