@@ -11,7 +11,8 @@ use Rattle.kat_top.specs.declared.status.Status.TheVariants as status
 use Rattle.kat_top.specs.Answers.{Answer, answer_of_fault, answer_of_error, out_of_memory}
 use Rattle.kat_top.specs.FileLaws.{FileLaws}
 use Rattle.kat_top.specs.Given.{StopsAt}
-use Rattle.kat_top.specs.Inputs.{Input, Thing, IsReadAs, IsRefusedAs, most_bytes}
+use Rattle.kat_top.specs.Inputs.{Input, Thing, IsReadAs, IsRefusedAs}
+use Rattle.kat_top.specs.Limits.{most_bytes}
 use Rattle.kat_top.specs.Judging.{Told, IsTakenAs, IsRefused}
 use Rattle.kat_top.specs.Loading.{WereRead, Came, Loads}
 use Rattle.kat_top.specs.Owed.{RefusedWith}

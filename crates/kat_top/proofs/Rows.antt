@@ -12,7 +12,8 @@ use Rattle.kat_top.specs.Answers.{Answer, answer_of_fault, answer_of_error, IsWh
 use Rattle.kat_top.specs.Causes.{IsFromOutside, Tells, UsageComes, LongComes, FormComes, DoneComes, StatusesCome}
 use Rattle.kat_top.specs.FileLaws.{FileLaws}
 use Rattle.kat_top.specs.Given.{AnswersFrom, Answered}
-use Rattle.kat_top.specs.Inputs.{Name, Input, Thing, IsReadAs, most_bytes}
+use Rattle.kat_top.specs.Inputs.{Name, Input, Thing, IsReadAs}
+use Rattle.kat_top.specs.Limits.{most_bytes}
 use Rattle.kat_top.specs.Jobs.{Does, inputs_of}
 use Rattle.kat_top.specs.Judging.{Told, IsNothing, IsTooLong, Reaches, AtNext, AtEnd}
 use Rattle.kat_top.specs.Loading.{Came}

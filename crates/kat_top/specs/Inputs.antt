@@ -21,10 +21,6 @@ use Rattle.kat_top.specs.declared.fault.TreeKind.TheVariants.{NotText, Unclosed,
 abbrev pub Name : Type 0
 Name = List ℕ
 
--- a file has at most this many bytes
-abbrev pub most_bytes : ℕ
-most_bytes = 4194304
-
 -- what a file is to be: a specification, a machine that can be run, or an image of the machine
 -- before it
 pub data Kind : Type 0 where

@@ -1,7 +1,8 @@
 -- How far the inputs of a job are judged, by the bytes that files tell.
 use Rattle.std.specs.Prelude.{◌≡◌, ◌<◌, ◌≤◌, ◌⊎◌, ℕ, List, [], ◌∷◌, ◌++◌, length, map, Option, Some, IsSome}
 use Rattle.kat_top.specs.declared.fault.Fault.{Fault}
-use Rattle.kat_top.specs.Inputs.{Name, Input, Thing, IsReadAs, IsRefusedAs, most_bytes}
+use Rattle.kat_top.specs.Inputs.{Name, Input, Thing, IsReadAs, IsRefusedAs}
+use Rattle.kat_top.specs.Limits.{most_bytes}
 
 -- what files tell of their bytes
 abbrev pub Told : Type 0
@@ -36,9 +37,9 @@ pub record IsTooLong (told : Told) (input : Input) : Type 0 where
   pub is_told : told input.name ≡ Some bytes
   pub many : most_bytes < length bytes
 
--- The one recursion over inputs. The judging comes to a point where P holds of what the inputs before it were
--- taken as and of those that are left: each input before it is taken as something, and P holds
--- there
+-- The one recursion over inputs. The judging comes to a point where P holds of what the inputs
+-- before it were taken as and of those that are left: each input before it is taken as something,
+-- and P holds there.
 abbrev pub Reaches : Told → (List Thing → List Input → Type 0) → List Thing → List Input → Type 0
 Reaches told P earlier [] = P earlier []
 Reaches told P earlier (input ∷ rest) =

@@ -7,6 +7,7 @@ pub mod Given
 pub mod Inputs
 pub mod Jobs
 pub mod Judging
+pub mod Limits
 pub mod Loading
 pub mod Owed
 pub mod Statuses

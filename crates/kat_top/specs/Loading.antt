@@ -12,7 +12,8 @@ use Rattle.kat_top.specs.declared.fault.Fault.TheVariants as fault
 use Rattle.kat_top.specs.declared.fault.TreeKind.TheVariants.{NotText, Unclosed, Stray, BadToken, Deep}
 use Rattle.kat_top.specs.declared.inputs.InputError.{InputError}
 use Rattle.kat_top.specs.declared.inputs.InputError.TheVariants as why
-use Rattle.kat_top.specs.Inputs.{Name, Kind, Input, Thing, IsReadAs, IsRefusedAs, most_bytes}
+use Rattle.kat_top.specs.Inputs.{Name, Kind, Input, Thing, IsReadAs, IsRefusedAs}
+use Rattle.kat_top.specs.Limits.{most_bytes}
 
 -- a read, as files note it: the name and the limit
 abbrev pub read_of : Name → Name × ℕ

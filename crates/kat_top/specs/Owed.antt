@@ -4,7 +4,8 @@ use Rattle.kat_words.specs.declared.asked.Job.{Job}
 use Rattle.kat_top.specs.declared.fault.Fault.{Fault}
 use Rattle.kat_top.specs.declared.fault.Fault.TheVariants as fault
 use Rattle.kat_top.specs.Answers.{Answer, answer_of_fault}
-use Rattle.kat_top.specs.Inputs.{Input, Thing, most_bytes}
+use Rattle.kat_top.specs.Inputs.{Input, Thing}
+use Rattle.kat_top.specs.Limits.{most_bytes}
 use Rattle.kat_top.specs.Judging.{Told, IsRefused, IsTooLong, Reaches}
 use Rattle.kat_top.specs.Jobs.{Does, inputs_of}
 

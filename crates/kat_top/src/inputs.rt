@@ -3,7 +3,8 @@
 
 ghost use Rattle.std.specs.Prelude.{◌≡◌, ◌≤◌, ◌+◌, length, List, Some};
 ghost use Rattle.kat_top.specs.declared.fault.Fault.TheVariants as fault;
-ghost use Rattle.kat_top.specs.Inputs.{most_bytes, Thing, ASpec, AMachine, AnImage, TheSpec, TheMachine, TheState, machine_of};
+ghost use Rattle.kat_top.specs.Inputs.{Thing, ASpec, AMachine, AnImage, TheSpec, TheMachine, TheState, machine_of};
+ghost use Rattle.kat_top.specs.Limits.{most_bytes};
 ghost use Rattle.kat_top.specs.Jobs.{input};
 ghost use Rattle.kat_top.specs.Loading.{IsFaultOrMemory, ComesOf, Loads, LoadsBytes, error_of_form, error_of_tree, items_of, as_thing};
 
