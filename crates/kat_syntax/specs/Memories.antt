@@ -83,9 +83,9 @@ abbrev pub is_cell_value : ℕ → Option Memory → Bool
 is_cell_value n None = true
 is_cell_value n (Some memory) = nat_lt n (2 ^ memory.cell_width)
 
--- whether a range has a cell, and all of them are cells of the memory
+-- whether a range has a cell, and all of them are cells of the memory, where there is one
 abbrev pub is_within : Range → Option Memory → Bool
-is_within range None = true
+is_within range None = nat_lt range.lo range.hi
 is_within range (Some memory) =
     nat_lt range.lo range.hi && (nat_le memory.lo range.lo && nat_le range.hi memory.hi)
 

@@ -5,10 +5,9 @@ use Rattle.std.specs.Option.{option_map}
 use Rattle.std.specs.Str.{bytes_eq}
 use Rattle.kat_value.specs.declared.types.Ty.{Ty}
 use Rattle.kat_value.specs.declared.types.Ty.TheVariants as ty
-use Rattle.kat_value.specs.Signatures.{agree, bits_of}
+use Rattle.kat_value.specs.Signatures.{agree, may_be_bits}
 use Rattle.kat_value.specs.Widths.{is_width}
 use Rattle.kat_ast.specs.declared.type_name.TypeName.{TypeName}
-use Rattle.kat_ast.specs.declared.type_name.TypeName.TheVariants.{Bits as BitsName}
 use Rattle.kat_ast.specs.declared.type_name.Param.{Param}
 use Rattle.kat_ast.specs.declared.expr.Expr.{Expr}
 use Rattle.kat_ast.specs.declared.assertion.Assertion.{Assertion}
@@ -85,11 +84,10 @@ field_faults around names at (field ∷ fields) =
     ++ (type_faults_at around (at + 2) field.ty
     ++ field_faults around (names ++ field.name ∷ []) (at + trees_of_param field) fields)
 
--- whether a register of this kind may be of this written type
-abbrev pub may_be_outside : RegisterKind → TypeName → Bool
-may_be_outside register.Outside (BitsName w) = true
-may_be_outside register.Outside _ = false
-may_be_outside _ type = true
+-- whether a register of this kind may be of this type, where it is known: an outside one of bits
+abbrev pub may_be_of : RegisterKind → Option Ty → Bool
+may_be_of register.Outside type = may_be_bits type
+may_be_of _ type = true
 
 -- the faults of a range of cells at tree 0: it needs a memory, is inside, and no cell is taken
 abbrev pub range_faults : Around → Range → List Fault
@@ -267,7 +265,7 @@ inner_faults around (d.Enum x members) = []
 inner_faults around (d.Union x ctors) = ctor_faults around 4 ctors
 inner_faults around (d.Record x fields) = field_faults around [] 4 fields
 inner_faults around (d.Register x type kind) =
-    type_faults_at around 3 type ++ unless (may_be_outside kind type) 3 OutsideNotBits
+    type_faults_at around 3 type ++ unless (may_be_of kind (type_here around type)) 3 OutsideNotBits
 inner_faults around (d.Memory a c lo hi) =
     unless (not (is_some (memory_before around))) 0 MemoryMissing
     ++ (unless (is_width a) 2 NoWidth
