@@ -1,6 +1,6 @@
 -- The text of declarations and specifications, by the texts of their parts. It is that of their
 -- trees.
-use Rattle.std.specs.Prelude.{ℕ, List, [], ◌∷◌, ◌++◌, map, codes}
+use Rattle.std.specs.Prelude.{ℕ, Bool, true, false, List, [], ◌∷◌, ◌++◌, map, codes}
 use Rattle.std.specs.Fmt.{decimal}
 use Rattle.kat_ast.specs.declared.assertion.Assertion.{Assertion}
 use Rattle.kat_ast.specs.declared.decl.Phase.{Phase}
@@ -69,6 +69,21 @@ text_of_decl (d.Block block) =
     ∷ listed (codes "change") (text_of_expr block.change ∷ []) ∷ [])
 text_of_decl (d.Boot x) = listed (codes "boot") (x ∷ [])
 
--- `(spec 1 D ..)`
+-- `(spec V D ..)`
 abbrev pub text_of_spec : Spec → List ℕ
 text_of_spec spec = listed (codes "spec") (decimal spec.version ∷ map text_of_decl spec.decls)
+
+-- whether a declaration is a region
+abbrev pub is_region : DeclForm → Bool
+is_region (d.Region x params i e) = true
+is_region _ = false
+
+-- whether a declaration is a contract
+abbrev pub is_contract : DeclForm → Bool
+is_contract (d.Contract f names pre x post) = true
+is_contract _ = false
+
+-- whether a declaration is a lemma
+abbrev pub is_lemma : DeclForm → Bool
+is_lemma (d.Lemma x params names pre post steps) = true
+is_lemma _ = false

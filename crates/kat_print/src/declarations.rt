@@ -1,6 +1,6 @@
 //! Declarations.
 
-ghost use Rattle.std.specs.Prelude.{◌≡◌, ◌++◌, [], ◌∷◌, map, codes, OnOk};
+ghost use Rattle.std.specs.Prelude.{◌≡◌, ◌++◌, [], ◌∷◌, map, codes, true, OnOk};
 ghost use Rattle.std.specs.Fmt.{decimal};
 ghost use Rattle.kat_tree.specs.Written.{behind_spaces};
 ghost use Rattle.kat_ast.specs.declared.decl.DeclForm.TheVariants as form;
@@ -9,7 +9,7 @@ ghost use Rattle.kat_print.specs.Lists.{listed};
 ghost use Rattle.kat_print.specs.Types.{text_of_params};
 ghost use Rattle.kat_print.specs.Expressions.{text_of_expr};
 ghost use Rattle.kat_print.specs.Statements.{text_of_stm};
-ghost use Rattle.kat_print.specs.Declarations.{text_of_phase, text_of_when, text_holding, text_of_decl};
+ghost use Rattle.kat_print.specs.Declarations.{text_of_phase, text_of_when, text_holding, text_of_decl, is_region, is_contract, is_lemma};
 
 use crate::assertions::{put_assertion_part, put_holding, put_holding_part};
 use crate::expressions::{put_named, put_of, put_part};
@@ -17,7 +17,7 @@ use crate::parts::{put_head, put_name};
 use crate::statements::{put_stm_part, put_stms};
 use crate::types::{put_names, put_params_part, put_type_part};
 use kat_ast::{
-    Assertion, Block, CellsKind, DeclForm, Expr, Param, Phase, RegisterKind, Stm, TypeName, When,
+    Assertion, Block, CellsKind, DeclForm, Param, Phase, RegisterKind, Stm, TypeName, When,
 };
 use kat_text::{Text, TextBuilder};
 use sqlite_items::Items;
@@ -40,12 +40,7 @@ pub fn put_decl(out: &mut TextBuilder, decl: &DeclForm) -> Result<(), AllocError
         } => put_memory(out, *index_width, *cell_width, *lo, *hi),
         DeclForm::Cells { kind, lo, hi } => put_cells(out, *kind, *lo, *hi),
         DeclForm::Code { lo, values } => put_code(out, *lo, values),
-        DeclForm::Region {
-            name,
-            params,
-            index,
-            guard,
-        } => put_region(out, name, params, index, guard),
+        DeclForm::Region { .. } => put_region(out, decl),
         DeclForm::Predicate {
             name,
             inputs,
@@ -58,21 +53,8 @@ pub fn put_decl(out: &mut TextBuilder, decl: &DeclForm) -> Result<(), AllocError
             result,
             body,
         } => put_fun(out, name, params, result, body),
-        DeclForm::Contract {
-            function,
-            names,
-            pre,
-            result,
-            post,
-        } => put_contract(out, function, names, pre, result, post),
-        DeclForm::Lemma {
-            name,
-            params,
-            names,
-            pre,
-            post,
-            steps,
-        } => put_lemma(out, name, params, names, pre, post, steps),
+        DeclForm::Contract { .. } => put_contract(out, decl),
+        DeclForm::Lemma { .. } => put_lemma(out, decl),
         DeclForm::Step(function) => put_named(out, "step", function),
         DeclForm::Dispatch { cases, otherwise } => put_dispatch(out, cases, otherwise),
         DeclForm::Untrusted(holds) => put_holding(out, "untrusted", holds),
@@ -156,16 +138,19 @@ fn put_code(out: &mut TextBuilder, lo: u64, values: &Items<u64>) -> Result<(), A
     out.push_close()
 }
 
-fn put_region(
-    out: &mut TextBuilder,
-    name: &Text,
-    params: &Items<Param>,
-    index: &Text,
-    guard: &Expr,
-) -> Result<(), AllocError>
-    ensures { OnOk result (out.new ≡ out.old
-        ++ text_of_decl (form.Region name.now params.now index.now guard.now)) }
+fn put_region(out: &mut TextBuilder, decl: &DeclForm) -> Result<(), AllocError>
+    requires { is_region decl.now ≡ true }
+    ensures { OnOk result (out.new ≡ out.old ++ text_of_decl decl.now) }
 {
+    let DeclForm::Region {
+        name,
+        params,
+        index,
+        guard,
+    } = decl
+    else {
+        unreachable!();
+    };
     put_start_of(out, "region", name, params)?;
     put_name(out, index)?;
     put_part(out, guard)?;
@@ -204,17 +189,20 @@ fn put_fun(
     out.push_close()
 }
 
-fn put_contract(
-    out: &mut TextBuilder,
-    function: &Text,
-    names: &Items<Param>,
-    pre: &Assertion,
-    result_name: &Text,
-    post: &Assertion,
-) -> Result<(), AllocError>
-    ensures { OnOk result (out.new ≡ out.old
-        ++ text_of_decl (form.Contract function.now names.now pre.now result_name.now post.now)) }
+fn put_contract(out: &mut TextBuilder, decl: &DeclForm) -> Result<(), AllocError>
+    requires { is_contract decl.now ≡ true }
+    ensures { OnOk result (out.new ≡ out.old ++ text_of_decl decl.now) }
 {
+    let DeclForm::Contract {
+        function,
+        names,
+        pre,
+        result: result_name,
+        post,
+    } = decl
+    else {
+        unreachable!();
+    };
     put_start_of(out, "contract", function, names)?;
     put_holding_part(out, "pre", pre)?;
     out.push_space()?;
@@ -223,18 +211,21 @@ fn put_contract(
     out.push_close()
 }
 
-fn put_lemma(
-    out: &mut TextBuilder,
-    name: &Text,
-    params: &Items<Param>,
-    names: &Items<Param>,
-    pre: &Assertion,
-    post: &Assertion,
-    steps: &Items<Stm>,
-) -> Result<(), AllocError>
-    ensures { OnOk result (out.new ≡ out.old
-        ++ text_of_decl (form.Lemma name.now params.now names.now pre.now post.now steps.now)) }
+fn put_lemma(out: &mut TextBuilder, decl: &DeclForm) -> Result<(), AllocError>
+    requires { is_lemma decl.now ≡ true }
+    ensures { OnOk result (out.new ≡ out.old ++ text_of_decl decl.now) }
 {
+    let DeclForm::Lemma {
+        name,
+        params,
+        names,
+        pre,
+        post,
+        steps,
+    } = decl
+    else {
+        unreachable!();
+    };
     put_start_of(out, "lemma", name, params)?;
     put_params_part(out, names.as_slice())?;
     put_promise(out, pre, post)?;
