@@ -1,0 +1,2 @@
+pub mod ShownTypes
+pub mod TermEquality
