@@ -1,3 +1,6 @@
+pub mod FreshLaws
+pub mod FreshSteps
+pub mod GrowthLaws
 pub mod Layers
 pub mod NumbersBelow
 pub mod OperationTypes

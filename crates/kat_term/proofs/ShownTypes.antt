@@ -7,7 +7,7 @@ use Rattle.kat_value.specs.declared.types.Ty.{Ty}
 use Rattle.kat_value.specs.declared.types.Ty.TheVariants as ty
 use Rattle.kat_value.specs.declared.types.TypeDecl.{TypeDecl}
 use Rattle.kat_value.specs.declared.value.Value.{Value, out-Value, roll-Value, out-roll-Value, roll-out-Value, map-Value, fold_out-Value, fold-roll-Value}
-use Rattle.kat_value.specs.declared.value.Value.TheVariants.{Bool as Truth, Bits, Made, Rec, rolls-Bool, rolls-Bits, rolls-Made, rolls-Rec}
+use Rattle.kat_value.specs.declared.value.Value.TheVariants.{Unit as UnitValue, Bool as Truth, Bits, Made, Rec, rolls-Unit, rolls-Bool, rolls-Bits, rolls-Made, rolls-Rec}
 use Rattle.kat_value.specs.declared.value.Value.TheOpen.{Value-F, Unit as UnitLayer, Bool as TruthLayer, Bits as BitsLayer, Member as MemberLayer, Made as MadeLayer, Rec as RecLayer}
 use Rattle.kat_value.specs.Operations.{is_number}
 use Rattle.kat_value.specs.Signatures.{same_type}
@@ -15,6 +15,9 @@ use Rattle.kat_value.specs.Typing.{HasType, has_type, layer_has_type, passes_cto
 use Rattle.kat_term.specs.Operations.{type_of_layer, type_of_value}
 
 -- the layers of values
+pub out-Unit : out-Value UnitValue ≡ UnitLayer
+out-Unit = ap out-Value (sym rolls-Unit) ∙ out-roll-Value UnitLayer
+
 pub out-Truth : (b : Bool) → out-Value (Truth b) ≡ TruthLayer b
 out-Truth b = ap out-Value (sym (rolls-Bool b)) ∙ out-roll-Value (TruthLayer b)
 

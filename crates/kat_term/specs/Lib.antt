@@ -1,4 +1,6 @@
 pub mod Equality
+pub mod Fresh
+pub mod Growth
 pub mod Limits
 pub mod Operations
 pub mod Order
@@ -6,3 +8,4 @@ pub mod Sizes
 pub mod Types
 pub mod Values
 pub mod Views
+pub mod Worlds

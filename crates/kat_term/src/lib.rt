@@ -8,10 +8,13 @@
 mod build;
 mod copy;
 mod equality;
+mod fresh;
 mod laws;
+mod limits;
 mod order;
 mod size;
 mod term;
+mod world;
 
 pub use build::{
     MadeParts, Number, RecParts, Three, Two, apply_one, apply_three, apply_two, arg_of, args_of,
@@ -20,7 +23,10 @@ pub use build::{
 };
 pub use copy::{copy_term, copy_terms};
 pub use equality::{same_op, same_term};
+pub use fresh::GrowError;
 pub use laws::equal_terms_are_tested;
+pub use limits::{MAX_DEPTH, MAX_NODES, MAX_VARS};
 pub use order::compare_terms;
 pub use size::{has_depth, nodes_within};
 pub use term::{Term, Terms};
+pub use world::World;
