@@ -1,6 +1,6 @@
 -- A fresh value is a term of its type, and has every value of that type.
 use Rattle.std.proofs.Common.{◌≡◌, ◌∙◌, ℕ, zero, suc, ◌+◌, Bool, true, false, List, [], ◌∷◌, ◌++◌, length, map, Option, Some, None, refl, ap, sym, subst, if◌then◌else◌, arith}
-use Rattle.std.specs.Prelude.{slice_get, option_and_then, ◌&&◌, ◌==◌}
+use Rattle.std.specs.Prelude.{Ok, slice_get, option_and_then, ◌&&◌, ◌==◌}
 use Rattle.std.specs.Option.{option_map}
 use Rattle.std.proofs.lemmas.Bool.{and_parts, and_from, eq-eqb, eqb-true}
 use Rattle.std.proofs.lemmas.List.{append-nil, append_assoc, length-append}
@@ -16,12 +16,12 @@ use Rattle.kat_value.specs.Typing.{HasType, has_type, layer_has_type, all_pass, 
 use Rattle.kat_term.specs.declared.term.Term.{Term}
 use Rattle.kat_term.specs.declared.term.Term.TheVariants.{Var as VarTerm, Rec as RecTerm}
 use Rattle.kat_term.specs.Fresh.{Fresh, FreshList, fresh_variable, fresh_before, fresh_fields, fresh_record, fresh_rec, fresh_by, fresh_within, fresh_of}
-use Rattle.kat_term.specs.Growth.{FreshValuesExtend, FreshValuesAreTerms, with_fresh}
+use Rattle.kat_term.specs.Growth.{FreshValuesExtend, FreshValuesAreTerms, WorldsStay, WorldsHaveValuations, AnswersFresh, ExtendsBy, with_fresh}
 use Rattle.kat_term.specs.Operations.{type_of_layer, type_of_value}
 use Rattle.kat_term.specs.Types.{type_of_record, type_of, IsTermOf, IsValuation}
 use Rattle.kat_term.specs.Values.{Valuation, all_there, is_literal, literal_value, value_of_record, value_of}
 use Rattle.kat_term.specs.Views.{unit}
-use Rattle.kat_term.specs.Worlds.{World, Fits}
+use Rattle.kat_term.specs.Worlds.{World, HaveValues, IsWorldOf, IsFormulaOf, AreFormulasOf, Fits}
 use Rattle.kat_term.proofs.GrowthLaws.{values_stay, types_stay, truths_stay}
 use Rattle.kat_term.proofs.Layers.{value_of-Var, value_of-Lit, value_of-Rec, type_of-Var, type_of-Lit, type_of-Rec}
 use Rattle.kat_term.proofs.ShownTypes.{tested, has_type-out, out-Unit, same_self}
@@ -247,3 +247,54 @@ fresh_values_extend types t world v fits x has =
 
 pub fresh_values_are_terms : FreshValuesAreTerms
 fresh_values_are_terms types t vars = within_typed types (length types) t vars
+
+-- the types of a valuation have values, and such types have a valuation
+types_have_values : (types : List TypeDecl) (vars : List Ty) (v : Valuation) → IsValuation types vars v → HaveValues types vars
+types_have_values types [] [] is = tt
+types_have_values types [] (x ∷ v) is = absurd is
+types_have_values types (t ∷ vars) [] is = absurd is
+types_have_values types (t ∷ vars) (x ∷ v) is = ((x, is.0), types_have_values types vars v is.1)
+
+valuation_of : (types : List TypeDecl) (vars : List Ty) → HaveValues types vars → (v : Valuation) × IsValuation types vars v
+valuation_of types [] have = ([], tt)
+valuation_of types (t ∷ vars) have = let rest = valuation_of types vars have.1 in (have.0.0 ∷ rest.0, (have.0.1, rest.1))
+
+values_join : (types : List TypeDecl) (vars more : List Ty) → HaveValues types vars → HaveValues types more → HaveValues types (vars ++ more)
+values_join types [] more first second = second
+values_join types (t ∷ vars) more first second = (first.0, values_join types vars more first.1 second)
+
+formulas_on : (types : List TypeDecl) (vars more : List Ty) (fs : List Term) → AreFormulasOf types vars fs → AreFormulasOf types (vars ++ more) fs
+formulas_on types vars more [] are = tt
+formulas_on types vars more (f ∷ fs) are = (types_stay types vars more ty.Bool f are.0, formulas_on types vars more fs are.1)
+
+formulas_join : (types : List TypeDecl) (vars : List Ty) (fs : List Term) (f : Term) → AreFormulasOf types vars fs → IsFormulaOf types vars f → AreFormulasOf types vars (fs ++ f ∷ [])
+formulas_join types vars [] f are is = (is, tt)
+formulas_join types vars (g ∷ fs) f are is = (are.0, formulas_join types vars fs f are.1 is)
+
+pub worlds_stay : WorldsStay
+worlds_stay types world is = (
+  λ t x has.
+      let fresh = within_has types (length types) t (length world.vars) x has in
+      let vars = (fresh_of types t (length world.vars)).vars in
+      record {
+        vars = values_join types world.vars vars is.vars (types_have_values types vars fresh.more fresh.valued);
+        formulas = formulas_on types world.vars vars world.formulas is.formulas;
+      },
+  λ formula typed. record { vars = is.vars; formulas = formulas_join types world.vars world.formulas formula is.formulas typed },
+)
+
+pub worlds_have_valuations : WorldsHaveValuations
+worlds_have_valuations types world is = valuation_of types world.vars is.vars
+
+-- a world that grew by a fresh value
+pub grown_extends : (types : List TypeDecl) (t : Ty) (old new : World) (term : Term) → AnswersFresh (Ok term) old.vars new.vars (fresh_of types t (length old.vars)) → new.formulas ≡ old.formulas →
+    ExtendsBy types t old new term
+grown_extends types t old new term answer same =
+    let fresh = fresh_of types t (length old.vars) in
+    let is : with_fresh old fresh ≡ new = sym (ap (λ vars. record { vars = vars; formulas = new.formulas }) answer.1 ∙ ap (λ fs. record { vars = old.vars ++ fresh.vars; formulas = fs }) same) in
+    subst (λ w. ExtendsBy types t old w term) is (subst (λ u. ExtendsBy types t old (with_fresh old fresh) u) (sym answer.0) (fresh_values_extend types t old))
+
+pub grown_typed : (types : List TypeDecl) (t : Ty) (old new : List Ty) (term : Term) → AnswersFresh (Ok term) old new (fresh_of types t (length old)) → IsTermOf types new t term
+grown_typed types t old new term answer =
+    subst (λ vars. IsTermOf types vars t term) (sym answer.1)
+    (subst (λ u. IsTermOf types (old ++ (fresh_of types t (length old)).vars) t u) (sym answer.0) (fresh_values_are_terms types t old))

@@ -14,7 +14,7 @@ use Rattle.kat_term.specs.declared.term.Term.{Term}
 use Rattle.kat_term.specs.declared.term.Term.TheOpen.{Term-F, Var, Lit, Apply, Make, Rec}
 use Rattle.kat_term.specs.declared.term.Term.TheViews.{roll-Term}
 use Rattle.kat_term.specs.declared.term.Term.TheFolds.{map-Term, ind-Term}
-use Rattle.kat_term.specs.Growth.{ValuesStay, TypesStay, FormulasNarrow}
+use Rattle.kat_term.specs.Growth.{ValuesStay, TypesStay, NarrowsBy, FormulasNarrow}
 use Rattle.kat_term.specs.Operations.{value_of_op}
 use Rattle.kat_term.specs.Types.{type_of_application, type_of_making, type_of_record, type_of, IsTermOf, IsValuation}
 use Rattle.kat_term.specs.Values.{Valuation, IsKept, all_there, value_of_making, value_of_record, value_of}
@@ -130,7 +130,10 @@ truths_part types v [] f are = (tt, are.0)
 truths_part types v (g ∷ fs) f are = let rest = truths_part types v fs f are.1 in ((are.0, rest.0), rest.1)
 
 pub formulas_narrow : FormulasNarrow
-formulas_narrow types world formula v = (
+formulas_narrow world formula types v = (
   λ fits. let parts = truths_part types v world.formulas formula fits.truths in (record { valued = fits.valued; truths = parts.0 }, parts.1),
   λ both. record { valued = both.0.valued; truths = truths_join types v world.formulas formula both.0.truths both.1 },
 )
+
+pub narrowed : (old : World) (formula : Term) (fs : List Term) → fs ≡ old.formulas ++ formula ∷ [] → NarrowsBy old (record { vars = old.vars; formulas = fs }) formula
+narrowed old formula fs same = subst (λ gs. NarrowsBy old (record { vars = old.vars; formulas = gs }) formula) (sym same) (formulas_narrow old formula)

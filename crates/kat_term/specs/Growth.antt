@@ -11,12 +11,7 @@ use Rattle.kat_term.specs.Fresh.{Fresh, fresh_of}
 use Rattle.kat_term.specs.Limits.{max_vars}
 use Rattle.kat_term.specs.Types.{IsTermOf, IsValuation}
 use Rattle.kat_term.specs.Values.{Valuation, IsKept, value_of}
-use Rattle.kat_term.specs.Worlds.{World, Fits, IsTrueUnder, with_formula}
-
--- the old variables and formulas stand before the new ones
-pub record Grew (old new : World) : Type 0 where
-  pub vars : (more : List Ty) × (new.vars ≡ old.vars ++ more)
-  pub formulas : (more : List Term) × (new.formulas ≡ old.formulas ++ more)
+use Rattle.kat_term.specs.Worlds.{World, IsWorldOf, IsFormulaOf, Fits, IsTrueUnder, with_formula}
 
 -- a world with the variables of a fresh value
 abbrev pub with_fresh : World → Fresh → World
@@ -65,8 +60,27 @@ TypesStay =
     (types : List TypeDecl) (vars more : List Ty) (t : Ty) (term : Term) →
     IsTermOf types vars t term → IsTermOf types (vars ++ more) t term
 
--- what fits behind one more formula is what fitted and makes it true
+-- what fits is then what fitted and makes the formula true
+abbrev pub NarrowsBy : World → World → Term → Type 0
+NarrowsBy old new formula =
+    (types : List TypeDecl) (v : Valuation) →
+    Fits types new v ↔ (Fits types old v × IsTrueUnder types v formula)
+
+-- with one more formula a world narrows by it
 abbrev pub FormulasNarrow : Type 0
-FormulasNarrow =
-    (types : List TypeDecl) (world : World) (formula : Term) (v : Valuation) →
-    Fits types (with_formula world formula) v ↔ (Fits types world v × IsTrueUnder types v formula)
+FormulasNarrow = (world : World) (formula : Term) → NarrowsBy world (with_formula world formula) formula
+
+-- a world stays one as it grows by a fresh value of a type that has one, and by a formula
+abbrev pub WorldsStay : Type 0
+WorldsStay =
+    (types : List TypeDecl) (world : World) → IsWorldOf types world →
+    ((t : Ty) (x : Value) → HasType types t x →
+    IsWorldOf types (with_fresh world (fresh_of types t (length world.vars))))
+    × ((formula : Term) → IsFormulaOf types world.vars formula →
+    IsWorldOf types (with_formula world formula))
+
+-- each world has a value for each of its variables
+abbrev pub WorldsHaveValuations : Type 0
+WorldsHaveValuations =
+    (types : List TypeDecl) (world : World) → IsWorldOf types world →
+    (v : Valuation) × IsValuation types world.vars v

@@ -3,7 +3,9 @@ use Rattle.std.specs.Prelude.{◌≡◌, Bool, true, List, [], ◌∷◌, ◌++�
 use Rattle.kat_value.specs.declared.types.Ty.{Ty}
 use Rattle.kat_value.specs.declared.types.Ty.TheVariants as ty
 use Rattle.kat_value.specs.declared.types.TypeDecl.{TypeDecl}
+use Rattle.kat_value.specs.declared.value.Value.{Value}
 use Rattle.kat_value.specs.declared.value.Value.TheVariants.{Bool as Truth}
+use Rattle.kat_value.specs.Typing.{HasType}
 use Rattle.kat_term.specs.declared.term.Term.{Term}
 use Rattle.kat_term.specs.Types.{IsTermOf, IsValuation}
 use Rattle.kat_term.specs.Values.{Valuation, value_of}
@@ -30,6 +32,17 @@ IsFormulaOf types vars formula = IsTermOf types vars ty.Bool formula
 abbrev pub AreFormulasOf : List TypeDecl → List Ty → List Term → Type 0
 AreFormulasOf types vars [] = Unit {0}
 AreFormulasOf types vars (f ∷ fs) = IsFormulaOf types vars f × AreFormulasOf types vars fs
+
+-- each of these types has a value
+abbrev pub HaveValues : List TypeDecl → List Ty → Type 0
+HaveValues types [] = Unit {0}
+HaveValues types (t ∷ vars) = ((x : Value) × HasType types t x) × HaveValues types vars
+
+-- a world by a table of types: there is a value for each variable, and each formula is one over its
+-- variables
+pub record IsWorldOf (types : List TypeDecl) (world : World) : Type 0 where
+  pub vars : HaveValues types world.vars
+  pub formulas : AreFormulasOf types world.vars world.formulas
 
 -- a formula is true under a valuation
 abbrev pub IsTrueUnder : List TypeDecl → Valuation → Term → Type 0

@@ -6,12 +6,15 @@
 #![tactic(auto)]
 
 mod build;
+mod choices;
 mod copy;
 mod equality;
 mod fresh;
+mod kind;
 mod laws;
 mod limits;
 mod order;
+mod prover;
 mod size;
 mod term;
 mod world;
@@ -21,12 +24,15 @@ pub use build::{
     bits, literal_in, made_in, make, number_in, rec, rec_in, three_args_of, truth, truth_in, unit,
     var_in,
 };
+pub use choices::Choices;
 pub use copy::{copy_term, copy_terms};
 pub use equality::{same_op, same_term};
 pub use fresh::GrowError;
-pub use laws::equal_terms_are_tested;
+pub use kind::Kind;
+pub use laws::{equal_terms_are_tested, types_are_values, worlds_grow};
 pub use limits::{MAX_DEPTH, MAX_NODES, MAX_VARS};
 pub use order::compare_terms;
+pub use prover::{Answer, NormError, Prover};
 pub use size::{has_depth, nodes_within};
 pub use term::{Term, Terms};
 pub use world::World;

@@ -2,7 +2,8 @@
 
 ghost use Rattle.std.specs.Prelude.{◌≡◌, ◌+◌, ◌<◌, IfOk, OnOk, OnErr, length, take};
 ghost use Rattle.kat_term.specs.Fresh.{fresh_of};
-ghost use Rattle.kat_term.specs.Growth.{Grew, AnswersFresh, ExtendsBy, with_fresh};
+ghost use Rattle.kat_term.specs.Growth.{AnswersFresh, ExtendsBy, NarrowsBy};
+ghost use Rattle.kat_term.specs.Types.{IsTermOf};
 ghost use Rattle.kat_term.specs.Worlds.{empty_world, with_formula};
 
 use crate::copy::copy_terms;
@@ -78,9 +79,11 @@ impl World {
     /// Assumes a formula. The valuations that fit are then those that fitted and make it true.
     pub fn assume(&mut self, formula: Term) -> Result<(), AllocError>
         ensures assumed { OnOk result (self.new ≡ with_formula self.old formula) }
+        ensures fits { OnOk result (NarrowsBy self.old self.new formula) }
         ensures kept { OnErr result (self.new ≡ self.old) }
     {
-        self.formulas.push(formula)
+        self.formulas.push(formula)?;
+        Ok(())
     }
 
     /// Adds a fresh value of a type: unit, a record of fresh values, or a new variable. It answers
@@ -89,6 +92,8 @@ impl World {
         ensures fresh { AnswersFresh result self.old.vars self.new.vars
             (fresh_of types.now ty.now (length self.old.vars)) }
         ensures formulas { self.new.formulas ≡ self.old.formulas }
+        ensures typed { IfOk result (λ t. IsTermOf types.now self.new.vars ty.now t) }
+        ensures extends { IfOk result (λ t. ExtendsBy types.now ty.now self.old self.new t) }
         ensures kept { OnErr result (self.new ≡ self.old) }
     {
         let before = self.vars.len();
