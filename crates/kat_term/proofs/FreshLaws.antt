@@ -1,9 +1,9 @@
 -- A fresh value is a term of its type, and has every value of that type.
-use Rattle.std.proofs.Common.{◌≡◌, ◌∙◌, ℕ, zero, suc, ◌+◌, Bool, true, false, List, [], ◌∷◌, ◌++◌, length, map, Option, Some, None, refl, ap, sym, subst, if◌then◌else◌, arith}
-use Rattle.std.specs.Prelude.{Ok, slice_get, option_and_then, ◌&&◌, ◌==◌}
+use Rattle.std.proofs.Common.{◌≡◌, ◌∙◌, ℕ, zero, suc, ◌+◌, true, List, [], ◌∷◌, ◌++◌, length, map, Option, Some, None, refl, ap, sym, subst, if◌then◌else◌, arith}
+use Rattle.std.specs.Prelude.{Ok, slice_get, option_and_then, ◌==◌}
 use Rattle.std.specs.Option.{option_map}
-use Rattle.std.proofs.lemmas.Bool.{and_parts, and_from, eq-eqb, eqb-true}
-use Rattle.std.proofs.lemmas.List.{append-nil, append_assoc, length-append}
+use Rattle.std.proofs.lemmas.Bool.{and_parts, and_from, eqb-true}
+use Rattle.std.proofs.lemmas.List.{append_assoc, length-append}
 use Rattle.kat_value.specs.declared.types.Field.{Field}
 use Rattle.kat_value.specs.declared.types.Ty.{Ty}
 use Rattle.kat_value.specs.declared.types.Ty.TheVariants as ty
@@ -14,14 +14,14 @@ use Rattle.kat_value.specs.declared.value.Value.TheOpen.{Value-F, Unit as UnitLa
 use Rattle.kat_value.specs.Signatures.{same_type}
 use Rattle.kat_value.specs.Typing.{HasType, has_type, layer_has_type, all_pass, pass_record, fields_at}
 use Rattle.kat_term.specs.declared.term.Term.{Term}
-use Rattle.kat_term.specs.declared.term.Term.TheVariants.{Var as VarTerm, Rec as RecTerm}
-use Rattle.kat_term.specs.Fresh.{Fresh, FreshList, fresh_variable, fresh_before, fresh_fields, fresh_record, fresh_rec, fresh_by, fresh_within, fresh_of}
+use Rattle.kat_term.specs.declared.term.Term.TheVariants.{Var as VarTerm}
+use Rattle.kat_term.specs.Fresh.{Fresh, FreshList, fresh_variable, fresh_fields, fresh_rec, fresh_within, fresh_of}
 use Rattle.kat_term.specs.Growth.{FreshValuesExtend, FreshValuesAreTerms, WorldsStay, WorldsHaveValuations, AnswersFresh, ExtendsBy, with_fresh}
 use Rattle.kat_term.specs.Operations.{type_of_layer, type_of_value}
 use Rattle.kat_term.specs.Types.{type_of_record, type_of, IsTermOf, IsValuation}
-use Rattle.kat_term.specs.Values.{Valuation, all_there, is_literal, literal_value, value_of_record, value_of}
+use Rattle.kat_term.specs.Values.{Valuation, all_there, is_literal, value_of_record, value_of}
 use Rattle.kat_term.specs.Views.{unit}
-use Rattle.kat_term.specs.Worlds.{World, HaveValues, IsWorldOf, IsFormulaOf, AreFormulasOf, Fits}
+use Rattle.kat_term.specs.Worlds.{World, HaveValues, IsFormulaOf, AreFormulasOf}
 use Rattle.kat_term.proofs.GrowthLaws.{values_stay, types_stay, truths_stay}
 use Rattle.kat_term.proofs.Layers.{value_of-Var, value_of-Lit, value_of-Rec, type_of-Var, type_of-Lit, type_of-Rec}
 use Rattle.kat_term.proofs.ShownTypes.{tested, has_type-out, out-Unit, same_self}
@@ -235,8 +235,7 @@ module _ (types : List TypeDecl) where
 
 pub fresh_values_extend : FreshValuesExtend
 fresh_values_extend types t world v fits x has =
-    let fresh = within_has types (length types) t (length world.vars) x has in
-    (
+    let fresh = within_has types (length types) t (length world.vars) x has in (
       fresh.more,
       record {
         valued = joined_valuations types world.vars (fresh_of types t (length world.vars)).vars v fresh.more fits.valued fresh.valued;

@@ -1,13 +1,8 @@
 -- Worlds grow: values and types stay, and fresh values have every value of their type.
-use Rattle.std.proofs.Common.{◌≡◌, ◌∙◌, ◌↔◌, ℕ, zero, suc, ◌+◌, Bool, true, List, [], ◌∷◌, ◌++◌, length, map, Option, Some, None, refl, ap, sym, subst}
-use Rattle.std.specs.Prelude.{slice_get, option_and_then, ◌&&◌, ◌==◌}
+use Rattle.std.proofs.Common.{◌≡◌, ◌∙◌, ℕ, zero, suc, List, [], ◌∷◌, ◌++◌, map, Option, Some, None, refl, ap, sym, subst}
+use Rattle.std.specs.Prelude.{slice_get, option_and_then}
 use Rattle.std.specs.Option.{option_map}
-use Rattle.std.proofs.lemmas.Bool.{and_parts}
-use Rattle.std.proofs.lemmas.List.{append-nil, append_assoc, length-append}
-use Rattle.kat_value.specs.declared.op.Op.{Op}
-use Rattle.kat_value.specs.declared.types.Field.{Field}
 use Rattle.kat_value.specs.declared.types.Ty.{Ty}
-use Rattle.kat_value.specs.declared.types.Ty.TheVariants as ty
 use Rattle.kat_value.specs.declared.types.TypeDecl.{TypeDecl}
 use Rattle.kat_value.specs.declared.value.Value.{Value}
 use Rattle.kat_term.specs.declared.term.Term.{Term}
@@ -16,9 +11,9 @@ use Rattle.kat_term.specs.declared.term.Term.TheViews.{roll-Term}
 use Rattle.kat_term.specs.declared.term.Term.TheFolds.{map-Term, ind-Term}
 use Rattle.kat_term.specs.Growth.{ValuesStay, TypesStay, NarrowsBy, FormulasNarrow}
 use Rattle.kat_term.specs.Operations.{value_of_op}
-use Rattle.kat_term.specs.Types.{type_of_application, type_of_making, type_of_record, type_of, IsTermOf, IsValuation}
-use Rattle.kat_term.specs.Values.{Valuation, IsKept, all_there, value_of_making, value_of_record, value_of}
-use Rattle.kat_term.specs.Worlds.{World, with_formula, IsTrueUnder, AreTrueUnder, Fits}
+use Rattle.kat_term.specs.Types.{type_of_application, type_of_making, type_of_record, type_of}
+use Rattle.kat_term.specs.Values.{Valuation, all_there, value_of_making, value_of_record, value_of}
+use Rattle.kat_term.specs.Worlds.{World, IsTrueUnder, AreTrueUnder}
 use Rattle.kat_term.proofs.Layers.{value_roll, type_roll}
 
 -- where the first is there, the second is the same

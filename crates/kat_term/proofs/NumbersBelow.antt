@@ -1,11 +1,11 @@
 -- What the operations on numbers give is a number of its width.
-use Rattle.std.proofs.Common.{◌≡◌, ◌∙◌, ℕ, ◌+◌, ◌-◌, ◌*◌, ◌/◌, ◌%◌, ◌^◌, ◌<◌, ◌≤◌, Bool, true, false, refl, ap, sym, subst, if◌then◌else◌, arith, nat_lt, nat_le, inl, inr}
-use Rattle.std.specs.Prelude.{◌&&◌, min}
+use Rattle.std.proofs.Common.{◌≡◌, ℕ, ◌+◌, ◌-◌, ◌*◌, ◌/◌, ◌%◌, ◌^◌, ◌<◌, ◌≤◌, Bool, true, false, sym, subst, if◌then◌else◌, arith, nat_lt, nat_le, inl, inr}
+use Rattle.std.specs.Prelude.{min}
 use Rattle.std.specs.Int.Bits.{and_lt, or_lt, xor_lt}
 use Rattle.std.proofs.Math.Nat.{mod-lt, div-le_self, div-lt_iff_lt-mul, pow-le-pow_right}
 use Rattle.std.proofs.lemmas.Nat.{pow_pos, pow-add, mul-add-lt}
 use Rattle.std.proofs.lemmas.Bool.{cases_Bool, cond-true, cond-false, and_parts, and_from, ltb-true, lt-ltb, leb-true, le-leb}
-use Rattle.kat_value.specs.declared.op.Op.TheVariants.{Add, Sub, Mul, Band, Bor, Bxor, Bnot, Shl, Shr, Sar, Slice, Cat, Zext, Sext}
+use Rattle.kat_value.specs.declared.op.Op.TheVariants.{Add, Sub, Mul, Band, Bor, Bxor, Bnot, Shl, Shr, Sar, Slice, Cat}
 use Rattle.kat_value.specs.Numbers.{has_top_bit, sign_extended, number_of_op}
 use Rattle.kat_value.specs.Operations.{is_number}
 use Rattle.kat_value.specs.Widths.{widest, is_width}

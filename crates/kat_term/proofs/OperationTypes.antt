@@ -1,6 +1,6 @@
 -- An operation has a value exactly on values of types that it takes, and the value is of the type
 -- that it gives.
-use Rattle.std.proofs.Common.{◌≡◌, ◌∙◌, ℕ, zero, suc, ◌+◌, ◌-◌, ◌^◌, ◌<◌, ◌≤◌, Bool, true, false, List, [], ◌∷◌, length, map, Option, Some, None, refl, ap, sym, subst, if◌then◌else◌, arith, nat_lt, nat_le}
+use Rattle.std.proofs.Common.{◌≡◌, ◌∙◌, ℕ, zero, suc, ◌+◌, ◌-◌, ◌<◌, ◌≤◌, Bool, true, false, List, [], ◌∷◌, length, map, Option, Some, None, refl, ap, sym, subst, if◌then◌else◌, arith, nat_lt, nat_le}
 use Rattle.std.specs.Prelude.{not, ◌==◌, ◌&&◌, ◌||◌, slice_get, option_and_then}
 use Rattle.std.specs.Option.{option_map}
 use Rattle.std.proofs.lemmas.Bool.{and_parts, and_from, eqb-true, ne_eqb}
@@ -14,7 +14,7 @@ use Rattle.kat_value.specs.declared.types.Ty.TheVariants as ty
 use Rattle.kat_value.specs.declared.types.TypeDecl.{TypeDecl}
 use Rattle.kat_value.specs.declared.value.Value.{Value, out-Value}
 use Rattle.kat_value.specs.declared.value.Value.TheVariants.{Bool as Truth, Bits}
-use Rattle.kat_value.specs.declared.value.Value.TheOpen.{Value-F, Unit as UnitLayer, Bool as TruthLayer, Bits as BitsLayer, Member as MemberLayer, Made as MadeLayer, Rec as RecLayer}
+use Rattle.kat_value.specs.declared.value.Value.TheOpen.{Value-F, Bool as TruthLayer, Bits as BitsLayer, Rec as RecLayer}
 use Rattle.kat_value.specs.Equality.{value_eq}
 use Rattle.kat_value.specs.Numbers.{truth_of_op, number_of_op}
 use Rattle.kat_value.specs.Operations.{is_number}
@@ -22,10 +22,10 @@ use Rattle.kat_value.specs.Signatures.{same_type, signature_of, all_taken, width
 use Rattle.kat_value.specs.Typing.{has_type, layer_has_type, all_pass, pass_record, fields_at}
 use Rattle.kat_value.specs.Widths.{widest, is_width}
 use Rattle.kat_value.specs.Words.{arity_of}
-use Rattle.kat_term.specs.Operations.{type_of_layer, type_of_value, one_type, of_truth, of_truths, of_number, of_numbers, of_comparison, of_arithmetic, of_parts, field_of, of_equals, can_be_chosen, of_choice, value_of_one, value_of_two, value_of_three, value_of_op}
+use Rattle.kat_term.specs.Operations.{type_of_layer, type_of_value, of_truth, of_truths, of_number, of_numbers, of_parts, field_of, of_equals, can_be_chosen, of_choice, value_of_one, value_of_two, value_of_three, value_of_op}
 use Rattle.kat_term.specs.Types.{type_of_application}
 use Rattle.kat_term.proofs.NumbersBelow.{KeepsWidth, add_keeps, sub_keeps, mul_keeps, band_keeps, bor_keeps, bxor_keeps, shl_keeps, shr_keeps, sar_keeps, bnot_keeps, slice_number, cat_number, longer_width, zext_number, sext_number}
-use Rattle.kat_term.proofs.ShownTypes.{tested, has_type-out, IsValue, is_value, shows, truth_is_value, bits_are_value, shown-Truth, shown-Bits, same_told}
+use Rattle.kat_term.proofs.ShownTypes.{tested, has_type-out, IsValue, is_value, shows, truth_is_value, bits_are_value, shown-Truth, shown-Bits}
 
 -- a value that is there is of the type that it shows
 abbrev pub IsValueThere : List TypeDecl → Option Value → Type 0

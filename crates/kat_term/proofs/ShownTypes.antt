@@ -1,12 +1,11 @@
 -- The type that a value shows.
-use Rattle.std.proofs.Common.{◌≡◌, ◌∙◌, ℕ, Bool, true, false, List, [], ◌∷◌, map, refl, ap, sym, subst}
-use Rattle.std.specs.Prelude.{◌==◌, ◌&&◌, nat_lt}
+use Rattle.std.proofs.Common.{◌≡◌, ◌∙◌, ℕ, Bool, true, false, List, map, refl, ap, sym, subst}
+use Rattle.std.specs.Prelude.{◌==◌}
 use Rattle.std.proofs.lemmas.Bool.{and_parts, and_from, eqb-true, eq-eqb}
-use Rattle.kat_value.specs.declared.types.Field.{Field}
 use Rattle.kat_value.specs.declared.types.Ty.{Ty}
 use Rattle.kat_value.specs.declared.types.Ty.TheVariants as ty
 use Rattle.kat_value.specs.declared.types.TypeDecl.{TypeDecl}
-use Rattle.kat_value.specs.declared.value.Value.{Value, out-Value, roll-Value, out-roll-Value, roll-out-Value, map-Value, fold_out-Value, fold-roll-Value}
+use Rattle.kat_value.specs.declared.value.Value.{Value, out-Value, out-roll-Value, map-Value, fold_out-Value}
 use Rattle.kat_value.specs.declared.value.Value.TheVariants.{Unit as UnitValue, Bool as Truth, Bits, Made, Rec, rolls-Unit, rolls-Bool, rolls-Bits, rolls-Made, rolls-Rec}
 use Rattle.kat_value.specs.declared.value.Value.TheOpen.{Value-F, Unit as UnitLayer, Bool as TruthLayer, Bits as BitsLayer, Member as MemberLayer, Made as MadeLayer, Rec as RecLayer}
 use Rattle.kat_value.specs.Operations.{is_number}

@@ -182,9 +182,9 @@ pub struct Three<'a> {
 /// The arguments of a term, where it is this operation on three.
 pub fn three_args_of(op: Op, term: &Term) -> Option<Three<'_>>
     ensures { three_args_of op term.now ≡ option_map (λ args. record {
-        first = args.first.now;
-        second = args.second.now;
-        third = args.third.now;
+      first = args.first.now;
+      second = args.second.now;
+      third = args.third.now;
     }) result }
 {
     match term {

@@ -86,7 +86,10 @@ fn compare_ops(a: Op, b: Op) -> Ordering
 {
     let first = key_of_op(a);
     let second = key_of_op(b);
-    let by_numbers = first.high.cmp(&second.high).then(first.low.cmp(&second.low));
+    let by_numbers = first
+        .high
+        .cmp(&second.high)
+        .then(first.low.cmp(&second.low));
     first.place.cmp(&second.place).then(by_numbers)
 }
 

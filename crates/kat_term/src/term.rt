@@ -12,7 +12,10 @@ pub enum Term {
     /// A value of type unit, bool or bits or of an enum.
     Lit(Value),
     /// An operation on its arguments.
-    Apply { op: Op, args: Terms },
+    Apply {
+        op: Op,
+        args: Terms,
+    },
     /// A constructor of a union with its payload.
     Make {
         of: u32,
@@ -20,7 +23,10 @@ pub enum Term {
         inner: Boxed<Term>,
     },
     /// A record with its fields in order.
-    Rec { of: u32, fields: Terms },
+    Rec {
+        of: u32,
+        fields: Terms,
+    },
 }
 
 /// Terms in order, which contracts see as a list.
