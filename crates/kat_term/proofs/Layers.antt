@@ -12,6 +12,7 @@ use Rattle.kat_term.specs.declared.term.Term.TheViews.{roll-Term}
 use Rattle.kat_term.specs.declared.term.Term.TheVariants.{Var as VarTerm, Lit as LitTerm, Apply as ApplyTerm, Make as MakeTerm, Rec as RecTerm, rolls-Var, rolls-Lit, rolls-Apply, rolls-Make, rolls-Rec}
 use Rattle.kat_term.specs.declared.term.Term.TheFolds.{map-Term, fold-roll-Term}
 use Rattle.kat_term.specs.Operations.{type_of_value, value_of_op}
+use Rattle.kat_term.specs.Parts.{ValuesByParts, TypesByParts, TermsByParts}
 use Rattle.kat_term.specs.Types.{type_of_application, type_of_making, type_of_record, type_layer, type_of}
 use Rattle.kat_term.specs.Values.{Valuation, all_there, literal_value, value_of_making, value_of_record, value_layer, value_of}
 
@@ -52,3 +53,21 @@ module _ (types : List TypeDecl) (vars : List Ty) where
 
   pub type_of-Rec : (of : ℕ) (ts : List Term) → type_of types vars (RecTerm of ts) ≡ option_and_then (type_of_record types of) (all_there (map (type_of types vars) ts))
   type_of-Rec of ts = ap (type_of types vars) (sym (rolls-Rec of ts)) ∙ type_roll (Rec of ts)
+
+pub terms_by_parts : TermsByParts
+terms_by_parts = (
+  λ types v. record {
+    variable = value_of-Var types v;
+    literal = value_of-Lit types v;
+    application = value_of-Apply types v;
+    making = value_of-Make types v;
+    fields = value_of-Rec types v;
+  },
+  λ types vars. record {
+    variable = type_of-Var types vars;
+    literal = type_of-Lit types vars;
+    application = type_of-Apply types vars;
+    making = type_of-Make types vars;
+    fields = type_of-Rec types vars;
+  },
+)

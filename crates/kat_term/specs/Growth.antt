@@ -34,7 +34,7 @@ ExtendsBy types t old new term =
     (v : Valuation) → Fits types old v → (x : Value) → HasType types t x →
     (more : Valuation) × Fits types new (v ++ more) × (value_of types (v ++ more) term ≡ Some x)
 
--- each fresh value that a world grows by is a term of the new world, and has every value of its type
+-- a world that grows by a fresh value of a type extends by every value of it
 abbrev pub FreshValuesExtend : Type 0
 FreshValuesExtend =
     (types : List TypeDecl) (t : Ty) (world : World) →
@@ -68,7 +68,8 @@ NarrowsBy old new formula =
 
 -- with one more formula a world narrows by it
 abbrev pub FormulasNarrow : Type 0
-FormulasNarrow = (world : World) (formula : Term) → NarrowsBy world (with_formula world formula) formula
+FormulasNarrow =
+    (world : World) (formula : Term) → NarrowsBy world (with_formula world formula) formula
 
 -- a world stays one as it grows by a fresh value of a type that has one, and by a formula
 abbrev pub WorldsStay : Type 0

@@ -4,6 +4,7 @@ pub mod Growth
 pub mod Limits
 pub mod Operations
 pub mod Order
+pub mod Parts
 pub mod Provers
 pub mod Sizes
 pub mod Types

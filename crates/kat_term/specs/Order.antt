@@ -42,8 +42,8 @@ place_of_kind (Apply op args) = 2
 place_of_kind (Make of ctor inner) = 3
 place_of_kind (Rec of fields) = 4
 
--- one layer of a term, with the comparison of each part, against one layer of another: by kind, then
--- literals by number or position, variables by number, operations by themselves and then by
+-- one layer of a term, with the comparison of each part, against one layer of another: by kind,
+-- then literals by number or position, variables by number, operations by themselves and then by
 -- arguments, constructors by position and then by payload, records by fields
 abbrev pub cmp_layer : Term-F (Term → Ordering) → Term-F Term → Ordering
 cmp_layer (Lit x) (Lit y) = nat_cmp (rank_of_literal x) (rank_of_literal y)

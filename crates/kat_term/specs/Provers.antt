@@ -37,7 +37,9 @@ PassesNoLimit (Err limit) = ⊥
 -- a normal form is of the term's type, and has its value under every valuation that fits
 pub record IsNormalOf (types : List TypeDecl) (world : World) (term normal : Term) : Type 0 where
   pub typed : (t : Ty) → IsTermOf types world.vars t term → IsTermOf types world.vars t normal
-  pub values : (v : Valuation) → Fits types world v → IsKept (value_of types v term) (value_of types v normal)
+  pub values :
+      (v : Valuation) → Fits types world v →
+      IsKept (value_of types v term) (value_of types v normal)
 
 -- `norm` keeps types and values
 abbrev pub NormKeeps : Normal → Type 0

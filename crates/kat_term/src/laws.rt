@@ -2,6 +2,7 @@
 
 ghost use Rattle.kat_term.specs.Equality.{TestsOperations, TestsTerms};
 ghost use Rattle.kat_term.specs.Growth.{FreshValuesExtend, FreshValuesAreTerms, ValuesStay, TypesStay, FormulasNarrow, WorldsStay, WorldsHaveValuations};
+ghost use Rattle.kat_term.specs.Parts.{TermsByParts};
 ghost use Rattle.kat_term.specs.Types.{TypesAreValues};
 
 use kat_value::equality_is_tested;
@@ -21,9 +22,9 @@ pub fn types_are_values()
     ensures { TypesAreValues }
 {}
 
-/// Worlds only grow. Each old term keeps its value and its type; a fresh value is a term of its type
-/// and may have every value of it; a formula narrows the valuations that fit to those that make it
-/// true.
+/// Worlds only grow. Each old term keeps its value and its type; a fresh value is a term of its
+/// type and may have every value of it; a formula narrows the valuations that fit to those that
+/// make it true.
 pub fn worlds_grow()
     ensures values { ValuesStay }
     ensures types { TypesStay }
@@ -32,4 +33,9 @@ pub fn worlds_grow()
     ensures formulas { FormulasNarrow }
     ensures worlds { WorldsStay }
     ensures valuations { WorldsHaveValuations }
+{}
+
+/// The value and the type of a term are those that its parts give.
+pub fn terms_by_parts()
+    ensures { TermsByParts }
 {}

@@ -29,7 +29,7 @@ pub use copy::{copy_term, copy_terms};
 pub use equality::{same_op, same_term};
 pub use fresh::GrowError;
 pub use kind::Kind;
-pub use laws::{equal_terms_are_tested, types_are_values, worlds_grow};
+pub use laws::{equal_terms_are_tested, terms_by_parts, types_are_values, worlds_grow};
 pub use limits::{MAX_DEPTH, MAX_NODES, MAX_VARS};
 pub use order::compare_terms;
 pub use prover::{Answer, NormError, Prover};
