@@ -12,7 +12,7 @@ use Rattle.kat_term.specs.declared.term.Term.TheViews.{roll-Term}
 use Rattle.kat_term.specs.declared.term.Term.TheVariants.{Var as VarTerm, Lit as LitTerm, Apply as ApplyTerm, Make as MakeTerm, Rec as RecTerm, rolls-Var, rolls-Lit, rolls-Apply, rolls-Make, rolls-Rec}
 use Rattle.kat_term.specs.declared.term.Term.TheFolds.{map-Term, fold-roll-Term}
 use Rattle.kat_term.specs.Operations.{type_of_value, value_of_op}
-use Rattle.kat_term.specs.Parts.{ValuesByParts, TypesByParts, TermsByParts}
+use Rattle.kat_term.specs.Parts.{TermsByParts}
 use Rattle.kat_term.specs.Types.{type_of_application, type_of_making, type_of_record, type_layer, type_of}
 use Rattle.kat_term.specs.Values.{Valuation, all_there, literal_value, value_of_making, value_of_record, value_layer, value_of}
 
