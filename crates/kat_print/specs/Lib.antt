@@ -2,5 +2,6 @@ pub mod Lists
 pub mod Types
 pub mod Expressions
 pub mod Statements
+pub mod Terms
 pub mod Assertions
 pub mod Declarations

@@ -150,7 +150,8 @@ fn put_two_names(
     out.push_close()
 }
 
-fn put_bits(out: &mut TextBuilder, width: u64, number: u64) -> Result<(), AllocError>
+/// A number of a width.
+pub fn put_bits(out: &mut TextBuilder, width: u64, number: u64) -> Result<(), AllocError>
     ensures { OnOk result (out.new ≡ out.old
         ++ listed (codes "bits") (decimal width ∷ decimal number ∷ [])) }
 {
@@ -185,7 +186,7 @@ fn put_apply(out: &mut TextBuilder, op: Op, args: &[Expr]) -> Result<(), AllocEr
 }
 
 /// The numbers that an operation is written with, before its arguments.
-fn put_numbers(out: &mut TextBuilder, op: Op) -> Result<(), AllocError>
+pub fn put_numbers(out: &mut TextBuilder, op: Op) -> Result<(), AllocError>
     ensures { OnOk result (out.new ≡ out.old ++ behind_spaces (number_texts op)) }
 {
     match numbers_of_op(op) {

@@ -10,7 +10,9 @@ mod laws;
 mod parts;
 mod print;
 mod statements;
+mod terms;
 mod types;
 
 pub use laws::{one_text, reads_back};
 pub use print::print_spec;
+pub use terms::print_term;

@@ -1,0 +1,168 @@
+-- A term is of a type exactly where it has a value of that type.
+use Rattle.std.proofs.Common.{◌≡◌, ◌∙◌, ℕ, zero, suc, Bool, true, false, List, [], ◌∷◌, map, Option, Some, None, refl, ap, sym, subst, if◌then◌else◌}
+use Rattle.std.specs.Prelude.{◌==◌, ◌&&◌, slice_get, option_and_then}
+use Rattle.std.specs.Option.{option_map}
+use Rattle.std.proofs.lemmas.Bool.{and_from, eq-eqb}
+use Rattle.kat_value.specs.declared.types.Field.{Field}
+use Rattle.kat_value.specs.declared.types.Ty.{Ty}
+use Rattle.kat_value.specs.declared.types.Ty.TheVariants as ty
+use Rattle.kat_value.specs.declared.types.TypeDecl.{TypeDecl}
+use Rattle.kat_value.specs.declared.value.Value.{Value, out-Value}
+use Rattle.kat_value.specs.declared.value.Value.TheVariants.{Made as MadeValue, Rec as RecValue}
+use Rattle.kat_value.specs.declared.value.Value.TheOpen.{Value-F, Unit as UnitLayer, Bool as TruthLayer, Bits as BitsLayer, Member as MemberLayer}
+use Rattle.kat_value.specs.Operations.{is_number}
+use Rattle.kat_value.specs.Signatures.{same_type}
+use Rattle.kat_value.specs.Typing.{HasType, has_type, layer_has_type, passes_ctor, pass_record, all_pass, ctor_at, fields_at}
+use Rattle.kat_term.specs.declared.term.Term.{Term}
+use Rattle.kat_term.specs.declared.term.Term.TheOpen.{Term-F, Var, Lit, Apply, Make, Rec}
+use Rattle.kat_term.specs.declared.term.Term.TheViews.{roll-Term}
+use Rattle.kat_term.specs.declared.term.Term.TheFolds.{map-Term, ind-Term}
+use Rattle.kat_term.specs.Operations.{type_of_layer, type_of_value, value_of_op}
+use Rattle.kat_term.specs.Types.{type_of_application, type_of_making, type_of_record, type_of, IsTermOf, IsValuation, HasValueOf, TypesAreValues}
+use Rattle.kat_term.specs.Values.{Valuation, all_there, is_literal, literal_value, value_of_making, value_of_record, value_of}
+use Rattle.kat_term.proofs.Layers.{value_roll, type_roll}
+use Rattle.kat_term.proofs.OperationTypes.{IsValueThere, AreValues, IsExact, none_exact, op_exact}
+use Rattle.kat_term.proofs.ShownTypes.{tested, IsValue, is_value, shows, test_is, value_by_layer, shown-Made, shown-Rec, made_is_value, rec_is_value}
+
+module _ (types : List TypeDecl) where
+  -- a literal is a value of the type that it shows
+  literal_layer : (y : Value-F Value) → is_literal types y ≡ true → layer_has_type types (tested types y) (type_of_layer y) ≡ true
+  literal_layer UnitLayer h = refl
+  literal_layer (TruthLayer b) h = refl
+  literal_layer (BitsLayer w n) h = and_from (w == w) (is_number w n) (eq-eqb w w refl) h
+  literal_layer (MemberLayer of index) h = and_from (of == of) _ (eq-eqb of of refl) h
+  literal_layer _ h = cc
+
+  literal_exact : (x : Value) → IsExact types (literal_value types x) (option_map type_of_value (literal_value types x))
+  literal_exact x = by (is_literal types (out-Value x)) refl where
+    by : (b : Bool) → is_literal types (out-Value x) ≡ b → IsExact types (if b then Some x else None) (option_map type_of_value (if b then Some x else None))
+    by true e = record { typed = refl; there = value_by_layer types x (literal_layer (out-Value x) e) }
+    by false e = none_exact types
+
+  -- the tests of a value are those of the type that it shows
+  ctor_test : (x : Value) → IsValue types x → (ctor : Option Field) → passes_ctor (has_type types x) ctor ≡ passes_ctor (same_type (type_of_value x)) ctor
+  ctor_test x is (Some ctor) = test_is types x is ctor.ty
+  ctor_test x is None = refl
+
+  all_test : (xs : List Value) → AreValues types xs → (fields : List Field) → all_pass (map (has_type types) xs) fields ≡ all_pass (map same_type (map type_of_value xs)) fields
+  all_test [] are [] = refl
+  all_test [] are (field ∷ fields) = refl
+  all_test (x ∷ xs) are [] = refl
+  all_test (x ∷ xs) are (field ∷ fields) =
+      ap (λ b. b && all_pass (map (has_type types) xs) fields) (test_is types x are.0 field.ty)
+      ∙ ap (λ b. same_type (type_of_value x) field.ty && b) (all_test xs are.1 fields)
+
+  record_test : (xs : List Value) → AreValues types xs → (declared : Option (List Field)) →
+      pass_record (map (has_type types) xs) declared ≡ pass_record (map same_type (map type_of_value xs)) declared
+  record_test xs are (Some fields) = all_test xs are fields
+  record_test xs are None = refl
+
+  making_exact : (of ctor : ℕ) (x : Value) → IsValue types x → IsExact types (value_of_making types of ctor x) (type_of_making types of ctor (type_of_value x))
+  making_exact of ctor x is =
+      subst (λ b. IsExact types (value_of_making types of ctor x) (if b then Some (ty.Union of) else None)) (ctor_test x is (ctor_at types of ctor))
+      (by (passes_ctor (has_type types x) (ctor_at types of ctor)) refl) where
+        by : (b : Bool) → passes_ctor (has_type types x) (ctor_at types of ctor) ≡ b → IsExact types (if b then Some (MadeValue of ctor x) else None) (if b then Some (ty.Union of) else None)
+        by true e = record { typed = ap Some (shown-Made of ctor x); there = made_is_value types of ctor x e }
+        by false e = none_exact types
+
+  fields_exact : (of : ℕ) (xs : List Value) → AreValues types xs → IsExact types (value_of_record types of xs) (type_of_record types of (map type_of_value xs))
+  fields_exact of xs are =
+      subst (λ b. IsExact types (value_of_record types of xs) (if b then Some (ty.Rec of) else None)) (record_test xs are (fields_at types of))
+      (by (pass_record (map (has_type types) xs) (fields_at types of)) refl) where
+        by : (b : Bool) → pass_record (map (has_type types) xs) (fields_at types of) ≡ b → IsExact types (if b then Some (RecValue of xs) else None) (if b then Some (ty.Rec of) else None)
+        by true e = record { typed = ap Some (shown-Rec of xs); there = rec_is_value types of xs e }
+        by false e = none_exact types
+
+  -- what is made of one part, and of a list of them
+  from_one : (f : Value → Option Value) (g : Ty → Option Ty) → ((x : Value) → IsValue types x → IsExact types (f x) (g (type_of_value x))) →
+      (o : Option Value) (t : Option Ty) → IsExact types o t → IsExact types (option_and_then f o) (option_and_then g t)
+  from_one f g exact None t is = subst (λ u. IsExact types None (option_and_then g u)) is.typed (none_exact types)
+  from_one f g exact (Some x) t is = subst (λ u. IsExact types (f x) (option_and_then g u)) is.typed (exact x is.there)
+
+  -- values that may be there, each of its type
+  abbrev AreThere : Option (List Value) → Type 0
+  AreThere None = Unit {0}
+  AreThere (Some xs) = AreValues types xs
+
+  record AreExact (os : Option (List Value)) (ts : Option (List Ty)) : Type 0 where
+    typed : option_map (map type_of_value) os ≡ ts
+    there : AreThere os
+
+  from_list : (f : List Value → Option Value) (g : List Ty → Option Ty) → ((xs : List Value) → AreValues types xs → IsExact types (f xs) (g (map type_of_value xs))) →
+      (os : Option (List Value)) (ts : Option (List Ty)) → AreExact os ts → IsExact types (option_and_then f os) (option_and_then g ts)
+  from_list f g exact None ts are = subst (λ us. IsExact types None (option_and_then g us)) are.typed (none_exact types)
+  from_list f g exact (Some xs) ts are = subst (λ us. IsExact types (f xs) (option_and_then g us)) are.typed (exact xs are.there)
+
+  cons_exact : (o : Option Value) (t : Option Ty) (os : Option (List Value)) (ts : Option (List Ty)) → IsExact types o t → AreExact os ts →
+      AreExact (option_and_then (λ x. option_map (λ xs. x ∷ xs) os) o) (option_and_then (λ x. option_map (λ xs. x ∷ xs) ts) t)
+  cons_exact None t os ts is are = subst (λ u. AreExact None (option_and_then (λ x. option_map (λ xs. x ∷ xs) ts) u)) is.typed (record { typed = refl; there = tt })
+  cons_exact (Some x) t None ts is are =
+      subst (λ u. AreExact None (option_and_then (λ x. option_map (λ xs. x ∷ xs) ts) u)) is.typed
+      (subst (λ us. AreExact None (option_map (λ xs. type_of_value x ∷ xs) us)) are.typed (record { typed = refl; there = tt }))
+  cons_exact (Some x) t (Some xs) ts is are =
+      subst (λ u. AreExact (Some (x ∷ xs)) (option_and_then (λ x. option_map (λ xs. x ∷ xs) ts) u)) is.typed
+      (subst (λ us. AreExact (Some (x ∷ xs)) (option_map (λ xs. type_of_value x ∷ xs) us)) are.typed (record { typed = refl; there = (is.there, are.there) }))
+
+  var_exact : (vars : List Ty) (v : Valuation) → IsValuation types vars v → (i : ℕ) → IsExact types (slice_get v i) (slice_get vars i)
+  var_exact [] [] fits i = none_exact types
+  var_exact [] (x ∷ v) fits i = absurd fits
+  var_exact (t ∷ vars) [] fits i = absurd fits
+  var_exact (t ∷ vars) (x ∷ v) fits zero = record { typed = ap Some (shows types t x fits.0); there = is_value types t x fits.0 }
+  var_exact (t ∷ vars) (x ∷ v) fits (suc i) = var_exact vars v fits.1 i
+
+  module _ (vars : List Ty) (v : Valuation) (fits : IsValuation types vars v) where
+    -- the value and the type of a term go together
+    abbrev IsTyped : Term → Type 0
+    IsTyped t = IsExact types (value_of types v t) (type_of types vars t)
+
+    abbrev Typed : Type 0
+    Typed = (t : Term) × IsTyped t
+
+    abbrev terms : List Typed → List Term
+    terms ts = map (λ (e : Typed). e.0) ts
+
+    all_exact : (ts : List Typed) → AreExact (all_there (map (value_of types v) (terms ts))) (all_there (map (type_of types vars) (terms ts)))
+    all_exact [] = record { typed = refl; there = tt }
+    all_exact (e ∷ ts) =
+        cons_exact (value_of types v e.0) (type_of types vars e.0) (all_there (map (value_of types v) (terms ts))) (all_there (map (type_of types vars) (terms ts))) e.1 (all_exact ts)
+
+    abbrev first : Term-F Typed → Term-F Term
+    first = map-Term Typed Term (λ e. e.0)
+
+    at_layer : (y : Term-F Term) (o : Option Value) (t : Option Ty) → value_of types v (roll-Term y) ≡ o → type_of types vars (roll-Term y) ≡ t → IsExact types o t → IsTyped (roll-Term y)
+    at_layer y o t value type is =
+        subst (λ p. IsExact types p (type_of types vars (roll-Term y))) (sym value) (subst (λ u. IsExact types o u) (sym type) is)
+
+    layer_typed : (y : Term-F Typed) → IsTyped (roll-Term (first y))
+    layer_typed (Var i) = at_layer (Var i) _ _ (value_roll types v (Var i)) (type_roll types vars (Var i)) (var_exact vars v fits i)
+    layer_typed (Lit x) = at_layer (Lit x) _ _ (value_roll types v (Lit x)) (type_roll types vars (Lit x)) (literal_exact x)
+    layer_typed (Apply op ts) =
+        at_layer (Apply op (terms ts)) _ _ (value_roll types v (Apply op (terms ts))) (type_roll types vars (Apply op (terms ts)))
+        (from_list (value_of_op op) (type_of_application types op) (op_exact types op) _ _ (all_exact ts))
+    layer_typed (Make of ctor e) =
+        at_layer (Make of ctor e.0) _ _ (value_roll types v (Make of ctor e.0)) (type_roll types vars (Make of ctor e.0))
+        (from_one (value_of_making types of ctor) (type_of_making types of ctor) (making_exact of ctor) _ _ e.1)
+    layer_typed (Rec of ts) =
+        at_layer (Rec of (terms ts)) _ _ (value_roll types v (Rec of (terms ts))) (type_roll types vars (Rec of (terms ts)))
+        (from_list (value_of_record types of) (type_of_record types of) (fields_exact of) _ _ (all_exact ts))
+
+    pub typed_exactly : (t : Term) → IsTyped t
+    typed_exactly = ind-Term IsTyped (λ x y is. subst (λ z. IsTyped (roll-Term z)) is (layer_typed y))
+
+    has_value : (t : Ty) (o : Option Value) → IsValueThere types o → option_map type_of_value o ≡ Some t → (x : Value) × (o ≡ Some x) × HasType types t x
+    has_value t None there e = cc
+    has_value t (Some x) there e =
+        let shown : type_of_value x ≡ t = cc in
+        (x, refl, subst (λ u. has_type types x u ≡ true) shown there)
+
+    pub value_there : (t : Ty) (term : Term) → IsTermOf types vars t term → HasValueOf types v t term
+    value_there t term is =
+        let exact = typed_exactly term in
+        has_value t (value_of types v term) exact.there (exact.typed ∙ is)
+
+    pub type_there : (t : Ty) (term : Term) → HasValueOf types v t term → IsTermOf types vars t term
+    type_there t term has =
+        sym (typed_exactly term).typed ∙ ap (option_map type_of_value) has.1 ∙ ap Some (shows types t has.0 has.2)
+
+pub types_are_values : TypesAreValues
+types_are_values types vars v fits t term = (value_there types vars v fits t term, type_there types vars v fits t term)

@@ -1,0 +1,13 @@
+pub mod Equality
+pub mod Fresh
+pub mod Growth
+pub mod Limits
+pub mod Operations
+pub mod Order
+pub mod Parts
+pub mod Provers
+pub mod Sizes
+pub mod Types
+pub mod Values
+pub mod Views
+pub mod Worlds
