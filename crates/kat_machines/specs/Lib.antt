@@ -1,0 +1,2 @@
+pub mod Pmp
+pub mod ByNumber
