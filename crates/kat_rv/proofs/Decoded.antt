@@ -8,10 +8,10 @@ use Rattle.kat_rv.specs.declared.instr.Instr.TheVariants.{Xori, Ori, Andi, Slli,
 use Rattle.kat_rv.specs.declared.instr.Instr.TheVariants.{Sub, Sll, Slt, Sltu, Xor, Srl, Sra, Or}
 use Rattle.kat_rv.specs.declared.instr.Instr.TheVariants.{And, Csrrw, Csrrs, Csrrc, Ecall, Mret}
 use Rattle.kat_rv.specs.declared.parts.Parts.{Parts}
-use Rattle.kat_rv.specs.Numbers.{IsAmount, IsBranchOffset, IsImmediate, IsJumpOffset}
-use Rattle.kat_rv.specs.Numbers.{IsRegister, IsUpper, signed_of, unsigned_of}
-use Rattle.kat_rv.specs.Parts.{AreParts, joined}
-use Rattle.kat_rv.specs.Decoding.{instr_in, instr_of}
+use Rattle.kat_rv.specs.Numbers.{IsAmount, IsBelow, IsBranchOffset, IsCsr, IsImmediate, IsJumpOffset}
+use Rattle.kat_rv.specs.Numbers.{IsRegister, IsUpper, natural_of, signed_of, unsigned_of}
+use Rattle.kat_rv.specs.Parts.{AreParts, joined, number_i, number_u}
+use Rattle.kat_rv.specs.Decoding.{immediate_i, instr_in, instr_of, offset_b}
 use Rattle.kat_rv.specs.Encoding.{HoldsNumbers, word_of}
 use Rattle.kat_rv.specs.Encoding.{branch_parts, high_part, immediate_parts, jump_parts, low_part}
 use Rattle.kat_rv.specs.Encoding.{register_parts, shift_parts, store_parts, upper_parts, word_parts}
@@ -43,26 +43,18 @@ pub immediate_held : (o f d a : ℕ) (z : ℤ) → o < 128 → f < 8 → IsRegis
 immediate_held o f d a z p q r s t =
     upper_held o f d a (unsigned_of 2048 z) p q r s (unsigned_below 2048 z t)
 
-pub amount_below : (z : ℤ) → IsAmount z → unsigned_of 16 z < 32
-amount_below (pos n) h = h
-amount_below (negsuc n) h = absurd h
+pub natural_below : (bound : ℕ) (z : ℤ) → IsBelow bound z → natural_of z < bound
+natural_below bound (pos n) h = h
+natural_below bound (negsuc n) h = absurd h
 
-pub amount_is : (z : ℤ) → IsAmount z → pos (unsigned_of 16 z) ≡ z
-amount_is (pos n) h = refl
-amount_is (negsuc n) h = absurd h
-
-pub upper_below : (z : ℤ) → IsUpper z → unsigned_of 524288 z < 1048576
-upper_below (pos n) h = h
-upper_below (negsuc n) h = absurd h
-
-pub upper_is : (z : ℤ) → IsUpper z → pos (unsigned_of 524288 z) ≡ z
-upper_is (pos n) h = refl
-upper_is (negsuc n) h = absurd h
+pub natural_is : (bound : ℕ) (z : ℤ) → IsBelow bound z → pos (natural_of z) ≡ z
+natural_is bound (pos n) h = refl
+natural_is bound (negsuc n) h = absurd h
 
 pub shift_held : (f g d a : ℕ) (z : ℤ) → f < 8 → g < 128 → IsRegister d → IsRegister a → IsAmount z
     → AreParts (shift_parts f g d a z)
 shift_held f g d a z p q r s t =
-    record { opcode = lit< tt; rd = r; funct3 = p; rs1 = s; rs2 = amount_below z t; funct7 = q }
+    record { opcode = lit< tt; rd = r; funct3 = p; rs1 = s; rs2 = natural_below 32 z t; funct7 = q }
 
 pub store_held : (a b n : ℕ) → IsRegister a → IsRegister b → n < 4096 → AreParts (store_parts a b n)
 store_held a b n r s t = record {
@@ -115,9 +107,6 @@ immediate_is : (z : ℤ) → IsImmediate z
     → signed_of 2048 (unsigned_of 2048 z / 32 * 32 + unsigned_of 2048 z % 32) ≡ z
 immediate_is z h = ap (signed_of 2048) (twelve (unsigned_of 2048 z)) ∙ signed-unsigned 2048 z h
 
-branch_below : (z : ℤ) → IsBranchOffset z → unsigned_of 4096 z < 8192
-branch_below z h = unsigned_below 4096 z h.0
-
 -- the offset of a branch, by the parts that hold it
 abbrev branch_number_of : ℕ → ℕ → ℕ
 branch_number_of f r = f / 64 * 4096 + r % 2 * 2048 + f % 64 * 32 + r / 2 * 2
@@ -138,104 +127,103 @@ jump_is z h =
     ∙ signed-unsigned 1048576 z h.0
 
 -- a number that lies in two parts, as the reading has it
-word_is : (z : ℤ) → IsUpper z → pos (unsigned_of 524288 z / 8192 * 8192
-    + unsigned_of 524288 z / 256 % 32 * 256 + unsigned_of 524288 z / 8 % 32 * 8
-    + unsigned_of 524288 z % 8) ≡ z
-word_is z h = ap pos (twenty (unsigned_of 524288 z)) ∙ upper_is z h
+word_is : (z : ℤ) → IsUpper z → pos (natural_of z / 8192 * 8192
+    + natural_of z / 256 % 32 * 256 + natural_of z / 8 % 32 * 8
+    + natural_of z % 8) ≡ z
+word_is z h = ap pos (twenty (natural_of z)) ∙ natural_is 1048576 z h
+
+-- an instruction is read from its word: with two registers and a result,
+with_registers : (instr : Instr) (f g d a b : ℕ) → f < 8 → g < 128
+    → IsRegister d × IsRegister a × IsRegister b
+    → (let p = register_parts f g d a b in instr_in (joined p) p ≡ Some instr)
+    → instr_of (joined (register_parts f g d a b)) ≡ Some instr
+with_registers instr f g d a b p q h is =
+    decoded _ (register_held f g d a b p q h.0 h.1 h.2) ∙ is
+
+-- with an immediate in 31:20,
+with_immediate : (make : ℤ → Instr) (o f d a : ℕ) (z : ℤ) → o < 128 → f < 8
+    → IsRegister d × IsRegister a × IsImmediate z
+    → (let p = immediate_parts o f d a z in instr_in (joined p) p ≡ Some (make (immediate_i p)))
+    → instr_of (joined (immediate_parts o f d a z)) ≡ Some (make z)
+with_immediate make o f d a z p q h is =
+    decoded _ (immediate_held o f d a z p q h.0 h.1 h.2) ∙ is
+    ∙ ap (λ (y : ℤ). Some (make y)) (immediate_is z h.2)
+
+-- with an amount,
+with_amount : (make : ℤ → Instr) (f g d a : ℕ) (z : ℤ) → f < 8 → g < 128
+    → IsRegister d × IsRegister a × IsAmount z
+    → (let p = shift_parts f g d a z in instr_in (joined p) p ≡ Some (make (pos p.rs2)))
+    → instr_of (joined (shift_parts f g d a z)) ≡ Some (make z)
+with_amount make f g d a z p q h is =
+    decoded _ (shift_held f g d a z p q h.0 h.1 h.2) ∙ is
+    ∙ ap (λ (y : ℤ). Some (make y)) (natural_is 32 z h.2)
+
+-- with the offset of a branch,
+with_offset : (make : ℤ → Instr) (f a b : ℕ) (z : ℤ) → f < 8
+    → IsRegister a × IsRegister b × IsBranchOffset z
+    → (let p = branch_parts f a b (unsigned_of 4096 z) in
+    instr_in (joined p) p ≡ Some (make (offset_b p)))
+    → instr_of (joined (branch_parts f a b (unsigned_of 4096 z))) ≡ Some (make z)
+with_offset make f a b z p h is =
+    decoded _ (branch_held f a b (unsigned_of 4096 z) p h.0 h.1 (unsigned_below 4096 z h.2.0)) ∙ is
+    ∙ ap (λ (y : ℤ). Some (make y)) (branch_is z h.2)
+
+-- with the upper 20 bits,
+with_upper : (make : ℤ → Instr) (o d : ℕ) (z : ℤ) → o < 128 → IsRegister d × IsUpper z
+    → (let p = word_parts o d (natural_of z) in
+    instr_in (joined p) p ≡ Some (make (pos (number_u p))))
+    → instr_of (joined (word_parts o d (natural_of z))) ≡ Some (make z)
+with_upper make o d z p h is =
+    decoded _ (word_held o d (natural_of z) p h.0 (natural_below 1048576 z h.1)) ∙ is
+    ∙ ap (λ (y : ℤ). Some (make y)) (word_is z h.1)
+
+-- with a CSR
+with_csr : (make : ℕ → Instr) (f d a c : ℕ) → f < 8 → IsRegister d × IsRegister a × IsCsr c
+    → (let p = upper_parts 0x73 f d a c in instr_in (joined p) p ≡ Some (make (number_i p)))
+    → instr_of (joined (upper_parts 0x73 f d a c)) ≡ Some (make c)
+with_csr make f d a c p h is =
+    decoded _ (upper_held 0x73 f d a c (lit< tt) p h.0 h.1 h.2) ∙ is
+    ∙ ap (λ (y : ℕ). Some (make y)) (twelve c)
 
 pub instr_of-word_of : (instr : Instr) → HoldsNumbers instr
     → instr_of (word_of instr) ≡ Some instr
-instr_of-word_of (Lui d z) h =
-    decoded _ (word_held 0x37 d (unsigned_of 524288 z) (lit< tt) h.0 (upper_below z h.1))
-    ∙ ap (λ (y : ℤ). Some (Lui d y)) (word_is z h.1)
-instr_of-word_of (Auipc d z) h =
-    decoded _ (word_held 0x17 d (unsigned_of 524288 z) (lit< tt) h.0 (upper_below z h.1))
-    ∙ ap (λ (y : ℤ). Some (Auipc d y)) (word_is z h.1)
+instr_of-word_of (Lui d z) h = with_upper (Lui d) 0x37 d z (lit< tt) h refl
+instr_of-word_of (Auipc d z) h = with_upper (Auipc d) 0x17 d z (lit< tt) h refl
 instr_of-word_of (Jal d z) h =
     decoded _ (jump_held d (unsigned_of 1048576 z) h.0 (unsigned_below 1048576 z h.1.0))
     ∙ ap (λ (y : ℤ). Some (Jal d y)) (jump_is z h.1)
-instr_of-word_of (Jalr d a z) h =
-    decoded _ (immediate_held 0x67 0 d a z (lit< tt) (lit< tt) h.0 h.1 h.2)
-    ∙ ap (λ (y : ℤ). Some (Jalr d a y)) (immediate_is z h.2)
-instr_of-word_of (Beq a b z) h =
-    decoded _ (branch_held 0 a b (unsigned_of 4096 z) (lit< tt) h.0 h.1 (branch_below z h.2))
-    ∙ ap (λ (y : ℤ). Some (Beq a b y)) (branch_is z h.2)
-instr_of-word_of (Bne a b z) h =
-    decoded _ (branch_held 1 a b (unsigned_of 4096 z) (lit< tt) h.0 h.1 (branch_below z h.2))
-    ∙ ap (λ (y : ℤ). Some (Bne a b y)) (branch_is z h.2)
-instr_of-word_of (Blt a b z) h =
-    decoded _ (branch_held 4 a b (unsigned_of 4096 z) (lit< tt) h.0 h.1 (branch_below z h.2))
-    ∙ ap (λ (y : ℤ). Some (Blt a b y)) (branch_is z h.2)
-instr_of-word_of (Bge a b z) h =
-    decoded _ (branch_held 5 a b (unsigned_of 4096 z) (lit< tt) h.0 h.1 (branch_below z h.2))
-    ∙ ap (λ (y : ℤ). Some (Bge a b y)) (branch_is z h.2)
-instr_of-word_of (Bltu a b z) h =
-    decoded _ (branch_held 6 a b (unsigned_of 4096 z) (lit< tt) h.0 h.1 (branch_below z h.2))
-    ∙ ap (λ (y : ℤ). Some (Bltu a b y)) (branch_is z h.2)
-instr_of-word_of (Bgeu a b z) h =
-    decoded _ (branch_held 7 a b (unsigned_of 4096 z) (lit< tt) h.0 h.1 (branch_below z h.2))
-    ∙ ap (λ (y : ℤ). Some (Bgeu a b y)) (branch_is z h.2)
-instr_of-word_of (Lw d a z) h =
-    decoded _ (immediate_held 0x03 2 d a z (lit< tt) (lit< tt) h.0 h.1 h.2)
-    ∙ ap (λ (y : ℤ). Some (Lw d a y)) (immediate_is z h.2)
 instr_of-word_of (Sw a b z) h =
     decoded _ (store_held a b (unsigned_of 2048 z) h.0 h.1 (unsigned_below 2048 z h.2))
     ∙ ap (λ (y : ℤ). Some (Sw a b y)) (immediate_is z h.2)
-instr_of-word_of (Addi d a z) h =
-    decoded _ (immediate_held 0x13 0 d a z (lit< tt) (lit< tt) h.0 h.1 h.2)
-    ∙ ap (λ (y : ℤ). Some (Addi d a y)) (immediate_is z h.2)
-instr_of-word_of (Slti d a z) h =
-    decoded _ (immediate_held 0x13 2 d a z (lit< tt) (lit< tt) h.0 h.1 h.2)
-    ∙ ap (λ (y : ℤ). Some (Slti d a y)) (immediate_is z h.2)
-instr_of-word_of (Sltiu d a z) h =
-    decoded _ (immediate_held 0x13 3 d a z (lit< tt) (lit< tt) h.0 h.1 h.2)
-    ∙ ap (λ (y : ℤ). Some (Sltiu d a y)) (immediate_is z h.2)
-instr_of-word_of (Xori d a z) h =
-    decoded _ (immediate_held 0x13 4 d a z (lit< tt) (lit< tt) h.0 h.1 h.2)
-    ∙ ap (λ (y : ℤ). Some (Xori d a y)) (immediate_is z h.2)
-instr_of-word_of (Ori d a z) h =
-    decoded _ (immediate_held 0x13 6 d a z (lit< tt) (lit< tt) h.0 h.1 h.2)
-    ∙ ap (λ (y : ℤ). Some (Ori d a y)) (immediate_is z h.2)
-instr_of-word_of (Andi d a z) h =
-    decoded _ (immediate_held 0x13 7 d a z (lit< tt) (lit< tt) h.0 h.1 h.2)
-    ∙ ap (λ (y : ℤ). Some (Andi d a y)) (immediate_is z h.2)
-instr_of-word_of (Slli d a z) h =
-    decoded _ (shift_held 1 0 d a z (lit< tt) (lit< tt) h.0 h.1 h.2)
-    ∙ ap (λ (y : ℤ). Some (Slli d a y)) (amount_is z h.2)
-instr_of-word_of (Srli d a z) h =
-    decoded _ (shift_held 5 0 d a z (lit< tt) (lit< tt) h.0 h.1 h.2)
-    ∙ ap (λ (y : ℤ). Some (Srli d a y)) (amount_is z h.2)
-instr_of-word_of (Srai d a z) h =
-    decoded _ (shift_held 5 32 d a z (lit< tt) (lit< tt) h.0 h.1 h.2)
-    ∙ ap (λ (y : ℤ). Some (Srai d a y)) (amount_is z h.2)
-instr_of-word_of (Add d a b) h =
-    decoded _ (register_held 0 0 d a b (lit< tt) (lit< tt) h.0 h.1 h.2)
-instr_of-word_of (Sub d a b) h =
-    decoded _ (register_held 0 32 d a b (lit< tt) (lit< tt) h.0 h.1 h.2)
-instr_of-word_of (Sll d a b) h =
-    decoded _ (register_held 1 0 d a b (lit< tt) (lit< tt) h.0 h.1 h.2)
-instr_of-word_of (Slt d a b) h =
-    decoded _ (register_held 2 0 d a b (lit< tt) (lit< tt) h.0 h.1 h.2)
-instr_of-word_of (Sltu d a b) h =
-    decoded _ (register_held 3 0 d a b (lit< tt) (lit< tt) h.0 h.1 h.2)
-instr_of-word_of (Xor d a b) h =
-    decoded _ (register_held 4 0 d a b (lit< tt) (lit< tt) h.0 h.1 h.2)
-instr_of-word_of (Srl d a b) h =
-    decoded _ (register_held 5 0 d a b (lit< tt) (lit< tt) h.0 h.1 h.2)
-instr_of-word_of (Sra d a b) h =
-    decoded _ (register_held 5 32 d a b (lit< tt) (lit< tt) h.0 h.1 h.2)
-instr_of-word_of (Or d a b) h =
-    decoded _ (register_held 6 0 d a b (lit< tt) (lit< tt) h.0 h.1 h.2)
-instr_of-word_of (And d a b) h =
-    decoded _ (register_held 7 0 d a b (lit< tt) (lit< tt) h.0 h.1 h.2)
-instr_of-word_of (Csrrw d a c) h =
-    decoded _ (upper_held 0x73 1 d a c (lit< tt) (lit< tt) h.0 h.1 h.2)
-    ∙ ap (λ (y : ℕ). Some (Csrrw d a y)) (twelve c)
-instr_of-word_of (Csrrs d a c) h =
-    decoded _ (upper_held 0x73 2 d a c (lit< tt) (lit< tt) h.0 h.1 h.2)
-    ∙ ap (λ (y : ℕ). Some (Csrrs d a y)) (twelve c)
-instr_of-word_of (Csrrc d a c) h =
-    decoded _ (upper_held 0x73 3 d a c (lit< tt) (lit< tt) h.0 h.1 h.2)
-    ∙ ap (λ (y : ℕ). Some (Csrrc d a y)) (twelve c)
+instr_of-word_of (Jalr d a z) h = with_immediate (Jalr d a) 0x67 0 d a z (lit< tt) (lit< tt) h refl
+instr_of-word_of (Lw d a z) h = with_immediate (Lw d a) 0x03 2 d a z (lit< tt) (lit< tt) h refl
+instr_of-word_of (Addi d a z) h = with_immediate (Addi d a) 0x13 0 d a z (lit< tt) (lit< tt) h refl
+instr_of-word_of (Slti d a z) h = with_immediate (Slti d a) 0x13 2 d a z (lit< tt) (lit< tt) h refl
+instr_of-word_of (Sltiu d a z) h = with_immediate (Sltiu d a) 0x13 3 d a z (lit< tt) (lit< tt) h refl
+instr_of-word_of (Xori d a z) h = with_immediate (Xori d a) 0x13 4 d a z (lit< tt) (lit< tt) h refl
+instr_of-word_of (Ori d a z) h = with_immediate (Ori d a) 0x13 6 d a z (lit< tt) (lit< tt) h refl
+instr_of-word_of (Andi d a z) h = with_immediate (Andi d a) 0x13 7 d a z (lit< tt) (lit< tt) h refl
+instr_of-word_of (Beq a b z) h = with_offset (Beq a b) 0 a b z (lit< tt) h refl
+instr_of-word_of (Bne a b z) h = with_offset (Bne a b) 1 a b z (lit< tt) h refl
+instr_of-word_of (Blt a b z) h = with_offset (Blt a b) 4 a b z (lit< tt) h refl
+instr_of-word_of (Bge a b z) h = with_offset (Bge a b) 5 a b z (lit< tt) h refl
+instr_of-word_of (Bltu a b z) h = with_offset (Bltu a b) 6 a b z (lit< tt) h refl
+instr_of-word_of (Bgeu a b z) h = with_offset (Bgeu a b) 7 a b z (lit< tt) h refl
+instr_of-word_of (Slli d a z) h = with_amount (Slli d a) 1 0 d a z (lit< tt) (lit< tt) h refl
+instr_of-word_of (Srli d a z) h = with_amount (Srli d a) 5 0 d a z (lit< tt) (lit< tt) h refl
+instr_of-word_of (Srai d a z) h = with_amount (Srai d a) 5 0x20 d a z (lit< tt) (lit< tt) h refl
+instr_of-word_of (Add d a b) h = with_registers (Add d a b) 0 0 d a b (lit< tt) (lit< tt) h refl
+instr_of-word_of (Sub d a b) h = with_registers (Sub d a b) 0 0x20 d a b (lit< tt) (lit< tt) h refl
+instr_of-word_of (Sll d a b) h = with_registers (Sll d a b) 1 0 d a b (lit< tt) (lit< tt) h refl
+instr_of-word_of (Slt d a b) h = with_registers (Slt d a b) 2 0 d a b (lit< tt) (lit< tt) h refl
+instr_of-word_of (Sltu d a b) h = with_registers (Sltu d a b) 3 0 d a b (lit< tt) (lit< tt) h refl
+instr_of-word_of (Xor d a b) h = with_registers (Xor d a b) 4 0 d a b (lit< tt) (lit< tt) h refl
+instr_of-word_of (Srl d a b) h = with_registers (Srl d a b) 5 0 d a b (lit< tt) (lit< tt) h refl
+instr_of-word_of (Sra d a b) h = with_registers (Sra d a b) 5 0x20 d a b (lit< tt) (lit< tt) h refl
+instr_of-word_of (Or d a b) h = with_registers (Or d a b) 6 0 d a b (lit< tt) (lit< tt) h refl
+instr_of-word_of (And d a b) h = with_registers (And d a b) 7 0 d a b (lit< tt) (lit< tt) h refl
+instr_of-word_of (Csrrw d a c) h = with_csr (Csrrw d a) 1 d a c (lit< tt) h refl
+instr_of-word_of (Csrrs d a c) h = with_csr (Csrrs d a) 2 d a c (lit< tt) h refl
+instr_of-word_of (Csrrc d a c) h = with_csr (Csrrc d a) 3 d a c (lit< tt) h refl
 instr_of-word_of Ecall h = refl
 instr_of-word_of Mret h = refl

@@ -8,7 +8,7 @@ use Rattle.kat_rv.specs.declared.instr.Instr.TheVariants.{Sub, Sll, Slt, Sltu, X
 use Rattle.kat_rv.specs.declared.instr.Instr.TheVariants.{And, Csrrw, Csrrs, Csrrc, Ecall, Mret}
 use Rattle.kat_rv.specs.declared.parts.Parts.{Parts}
 use Rattle.kat_rv.specs.Numbers.{IsAmount, IsBranchOffset, IsCsr, IsImmediate, IsJumpOffset}
-use Rattle.kat_rv.specs.Numbers.{IsRegister, IsUpper, unsigned_of}
+use Rattle.kat_rv.specs.Numbers.{IsRegister, IsUpper, natural_of, unsigned_of}
 use Rattle.kat_rv.specs.Parts.{joined}
 
 -- two registers and a result: opcode 33
@@ -28,7 +28,7 @@ immediate_parts o f d a z = upper_parts o f d a (unsigned_of 2048 z)
 -- an amount in 24:20
 abbrev pub shift_parts : ℕ → ℕ → ℕ → ℕ → ℤ → Parts
 shift_parts f g d a z =
-    record { opcode = 0x13; rd = d; funct3 = f; rs1 = a; rs2 = unsigned_of 16 z; funct7 = g }
+    record { opcode = 0x13; rd = d; funct3 = f; rs1 = a; rs2 = natural_of z; funct7 = g }
 
 -- an immediate in 31:25 and 11:7: opcode 23
 abbrev pub store_parts : ℕ → ℕ → ℕ → Parts
@@ -83,8 +83,8 @@ system_parts b g =
 
 -- the parts of the word of an instruction
 abbrev pub parts_of_instr : Instr → Parts
-parts_of_instr (Lui d z) = word_parts 0x37 d (unsigned_of 524288 z)
-parts_of_instr (Auipc d z) = word_parts 0x17 d (unsigned_of 524288 z)
+parts_of_instr (Lui d z) = word_parts 0x37 d (natural_of z)
+parts_of_instr (Auipc d z) = word_parts 0x17 d (natural_of z)
 parts_of_instr (Jal d z) = jump_parts d (unsigned_of 1048576 z)
 parts_of_instr (Jalr d a z) = immediate_parts 0x67 0 d a z
 parts_of_instr (Beq a b z) = branch_parts 0 a b (unsigned_of 4096 z)

@@ -10,10 +10,19 @@ abbrev pub unsigned_of : ℕ → ℤ → ℕ
 unsigned_of half (pos n) = n
 unsigned_of half (negsuc n) = half + half - (n + 1)
 
+-- a number that is not negative
+abbrev pub natural_of : ℤ → ℕ
+natural_of (pos n) = n
+natural_of (negsuc n) = 0
+
 -- a number of so many bits, the highest of which is the sign
 abbrev pub IsSigned : ℕ → ℤ → Type 0
 IsSigned half (pos n) = n < half
 IsSigned half (negsuc n) = n < half
+
+-- the same, and even
+abbrev pub IsEven : ℕ → ℤ → Type 0
+IsEven half z = IsSigned half z × (unsigned_of half z % 2 ≡ 0)
 
 -- a number below the bound
 abbrev pub IsBelow : ℕ → ℤ → Type 0
@@ -34,11 +43,11 @@ IsImmediate z = IsSigned 2048 z
 
 -- an even offset of 13 bits with a sign
 abbrev pub IsBranchOffset : ℤ → Type 0
-IsBranchOffset z = IsSigned 4096 z × (unsigned_of 4096 z % 2 ≡ 0)
+IsBranchOffset z = IsEven 4096 z
 
 -- an even offset of 21 bits with a sign
 abbrev pub IsJumpOffset : ℤ → Type 0
-IsJumpOffset z = IsSigned 1048576 z × (unsigned_of 1048576 z % 2 ≡ 0)
+IsJumpOffset z = IsEven 1048576 z
 
 -- the upper 20 bits of a word, without a sign
 abbrev pub IsUpper : ℤ → Type 0

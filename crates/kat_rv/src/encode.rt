@@ -7,7 +7,8 @@ ghost use Rattle.kat_rv.specs.Encoding.{parts_of_instr, register_parts, shift_pa
 ghost use Rattle.kat_rv.specs.Encoding.{system_parts, upper_parts, word_of, word_parts};
 ghost use Rattle.kat_rv.specs.Encoding.{low_part};
 ghost use Rattle.kat_rv.specs.Numbers.{IsAmount, IsBranchOffset, IsCsr, IsImmediate};
-ghost use Rattle.kat_rv.specs.Numbers.{IsJumpOffset, IsRegister, IsUpper, unsigned_of};
+ghost use Rattle.kat_rv.specs.Numbers.{IsJumpOffset, IsRegister, IsUpper, natural_of};
+ghost use Rattle.kat_rv.specs.Numbers.{unsigned_of};
 ghost use Rattle.kat_rv.specs.Parts.{AreParts};
 
 use crate::instr::Instr;
@@ -205,7 +206,7 @@ fn jump_parts(rd: &Register, imm: &JumpOffset) -> Parts
 /// Of the upper 20 bits of a word.
 fn word_parts(opcode: u32, rd: &Register, imm: &Upper) -> Parts
     requires { opcode < 128 }
-    ensures parts { result ≡ word_parts opcode rd.now (unsigned_of 524288 imm.now) }
+    ensures parts { result ≡ word_parts opcode rd.now (natural_of imm.now) }
     ensures held { AreParts result }
     ensures numbers { IsRegister rd.now × IsUpper imm.now }
 {

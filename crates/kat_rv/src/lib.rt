@@ -15,5 +15,8 @@ mod text;
 pub use decode::decode_word;
 pub use encode::word_of;
 pub use instr::Instr;
-pub use numbers::{Amount, BranchOffset, Csr, Immediate, JumpOffset, Register, Upper};
+pub use numbers::{
+    Amount, BranchOffset, Csr, Even, Immediate, JumpOffset, Number, Register, Signed, Unsigned,
+    Upper,
+};
 pub use text::word_text;

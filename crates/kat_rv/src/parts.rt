@@ -5,7 +5,9 @@ ghost use Rattle.kat_rv.specs.Decoding.{immediate_i, immediate_s, offset_b, offs
 ghost use Rattle.kat_rv.specs.Parts.{AreParts, joined, number_b, number_i, number_j, number_s};
 ghost use Rattle.kat_rv.specs.Parts.{number_u, parts_of};
 
-use crate::numbers::{Amount, BranchOffset, Csr, Immediate, JumpOffset, Register, Upper, signed};
+use crate::numbers::{
+    Amount, BranchOffset, Csr, Immediate, JumpOffset, Register, Upper, number_of,
+};
 
 /// The six parts of a word: opcode 6:0, rd 11:7, funct3 14:12, rs1 19:15, rs2 24:20, funct7 31:25.
 #[derive(Drop)]
@@ -88,7 +90,7 @@ impl Parts {
         requires { AreParts self.now }
         ensures { result ≡ immediate_i self.now }
     {
-        Immediate::new(signed(1 << 11, self.funct7 << 5 | self.rs2))
+        Immediate::new(number_of(1 << 11, self.funct7 << 5 | self.rs2))
     }
 
     /// The immediate in 31:25 and 11:7.
@@ -96,7 +98,7 @@ impl Parts {
         requires { AreParts self.now }
         ensures { result ≡ immediate_s self.now }
     {
-        Immediate::new(signed(1 << 11, self.funct7 << 5 | self.rd))
+        Immediate::new(number_of(1 << 11, self.funct7 << 5 | self.rd))
     }
 
     /// The upper 20 bits.
@@ -112,7 +114,7 @@ impl Parts {
         requires { AreParts self.now }
         ensures { result ≡ offset_b self.now }
     {
-        BranchOffset::new(signed(1 << 12, self.number_b()))
+        BranchOffset::new(number_of(1 << 12, self.number_b()))
     }
 
     /// The offset of a jump: 31, 19:12, 20, 30:21 and a zero.
@@ -120,7 +122,7 @@ impl Parts {
         requires { AreParts self.now }
         ensures { result ≡ offset_j self.now }
     {
-        JumpOffset::new(signed(1 << 20, self.number_j()))
+        JumpOffset::new(number_of(1 << 20, self.number_j()))
     }
 
     /// The upper 20 bits as they stand.

@@ -1,0 +1,6 @@
+pub mod Words
+pub mod Trees
+pub mod Formed
+pub mod Each
+pub mod Declarations
+pub mod Generated
