@@ -1,6 +1,0 @@
-pub mod Words
-pub mod Trees
-pub mod Formed
-pub mod Each
-pub mod Declarations
-pub mod Generated
