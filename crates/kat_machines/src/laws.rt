@@ -12,7 +12,9 @@ ghost use Rattle.kat_machines.specs.Pmp.{allows};
 /// mode alone does.
 pub fn the_least_match_decides()
     ensures decided { (entries : List Entry) (mode : Priv) (kind : Access) (index i : ℕ) →
-        IsDecidedBy entries index i → allows entries mode kind index ≡ granted_by entries i mode kind }
+        IsDecidedBy entries index i →
+        allows entries mode kind index ≡ granted_by entries i mode kind }
     ensures undecided { (entries : List Entry) (mode : Priv) (kind : Access) (index : ℕ) →
-        IsDecidedByNone entries index → allows entries mode kind index ≡ is_free mode }
+        IsDecidedByNone entries index →
+        allows entries mode kind index ≡ is_free mode }
 {}
