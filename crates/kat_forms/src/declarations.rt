@@ -1,6 +1,6 @@
 //! Declarations.
 
-ghost use Rattle.std.specs.Prelude.{◌≡◌, ◌-◌, ◌++◌, [], ◌∷◌, IfOk, length, replicate, codes};
+ghost use Rattle.std.specs.Prelude.{◌≡◌, ◌-◌, ◌++◌, [], ◌∷◌, IfOk, Ok, length, replicate, codes};
 ghost use Rattle.std.specs.List.{AllByRecursion};
 ghost use Rattle.kat_ast.specs.Parts.{word, form};
 ghost use Rattle.kat_ast.specs.Declarations.{word_of_register_kind, word_of_cells_kind};
@@ -160,6 +160,7 @@ fn region_in(alloc: Global, parts: &[Tree]) -> Result<DeclForm, AllocError>
     requires { HasParts (Sort.Name ∷ Sort.Params ∷ Sort.Name ∷ Sort.Expression ∷ []) parts.now }
     ensures { IfOk result (λ d. IsDeclForm (form (codes "region") parts.now) d) }
 {
+    form_laws();
     let [name, params, index, guard] = parts else {
         unreachable!();
     };
@@ -176,6 +177,7 @@ fn predicate_in(alloc: Global, parts: &[Tree]) -> Result<DeclForm, AllocError>
     requires { HasParts (Sort.Name ∷ Sort.Params ∷ Sort.Params ∷ Sort.Assertion ∷ []) parts.now }
     ensures { IfOk result (λ d. IsDeclForm (form (codes "pred") parts.now) d) }
 {
+    form_laws();
     let [name, inputs, outputs, definition] = parts else {
         unreachable!();
     };
@@ -192,6 +194,7 @@ fn fun_in(alloc: Global, parts: &[Tree]) -> Result<DeclForm, AllocError>
     requires { HasParts (Sort.Name ∷ Sort.Params ∷ Sort.TypeName ∷ Sort.Statement ∷ []) parts.now }
     ensures { IfOk result (λ d. IsDeclForm (form (codes "fun") parts.now) d) }
 {
+    form_laws();
     let [name, params, returned, body] = parts else {
         unreachable!();
     };
@@ -288,11 +291,15 @@ fn block_in(alloc: Global, parts: &[Tree]) -> Result<DeclForm, AllocError>
     let [name, entry, within, change] = parts else {
         unreachable!();
     };
+    let name = name_in(name)?;
+    let within = number_in(part_of(within));
+    let entry = assertion_in(alloc, part_of(entry))?;
+    let (entry, change) = paired(entry, expr_in(alloc, part_of(change)))?;
     Ok(DeclForm::Block(Block {
-        name: name_in(name)?,
-        entry: assertion_in(alloc, part_of(entry))?,
-        within: number_in(part_of(within)),
-        change: expr_in(alloc, part_of(change))?,
+        name,
+        entry,
+        within,
+        change,
     }))
 }
 
@@ -318,7 +325,17 @@ fn conditions_in(
     form_laws();
     small_lists();
     let pre = assertion_in(alloc, part_of(pre))?;
-    Ok((pre, assertion_in(alloc, part_of(post))?))
+    paired(pre, assertion_in(alloc, part_of(post)))
+}
+
+/// A thing, and what was read behind it. Where that failed the thing is given up.
+fn paired<A: Drop, B>(first: A, second: Result<B, AllocError>) -> Result<(A, B), AllocError>
+    ensures { IfOk result (λ r. (r.0 ≡ first) × (second ≡ Ok r.1)) }
+{
+    match second {
+        Ok(second) => Ok((first, second)),
+        Err(error) => Err(error),
+    }
 }
 
 /// The place of a register.
@@ -378,8 +395,8 @@ fn when_in(alloc: Global, tree: &Tree) -> Result<When, AllocError>
         unreachable!();
     };
     Ok(When {
-        test: expr_in(alloc, test)?,
         phase: phase_in(phase)?,
+        test: expr_in(alloc, test)?,
     })
 }
 

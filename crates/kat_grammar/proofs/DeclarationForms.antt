@@ -27,13 +27,13 @@ use Rattle.kat_ast.specs.Expressions.{is_formed_expr}
 use Rattle.kat_ast.specs.Statements.{tree_of_stm, is_formed_stm}
 use Rattle.kat_ast.specs.Assertions.{is_formed_assertion}
 use Rattle.kat_ast.specs.Declarations.{tree_of_phase, tree_of_when, word_of_register_kind, word_of_cells_kind, holding, tree_of_decl, is_formed_phase, is_formed_when, is_formed_decl}
-use Rattle.kat_shapes.specs.Forms.{Form, exactly, between, many, form_in, newest, row_of, words_of, is_since, declarations}
+use Rattle.kat_shapes.specs.Forms.{Form, between, many, form_in, newest, row_of, words_of, is_since, declarations}
 use Rattle.kat_shapes.specs.Fits.{fits}
-use Rattle.kat_grammar.specs.Parts.{FitsSort, HasParts, HasOneForm, HoldsOne, HasNoAtoms}
+use Rattle.kat_grammar.specs.Parts.{FitsSort, HasParts, HoldsOne, HasNoAtoms}
 use Rattle.kat_grammar.specs.Forms.{IsPhase, IsWhen, IsHolding, IsDeclForm, AreWhens}
 use Rattle.kat_grammar.proofs.Lists.{both, and2, and3, and4, and5, and6, same1, same2, same3, same4, same5, same6, same_first}
 use Rattle.kat_grammar.proofs.Fitting.{by_layer, fits_of_token, no_list, no_form, headed, is_list, exact_parts, many_parts, between_parts, rest_fits, some_fit, before_fits, one_last, one_form, held_list, token_fits, form_fits, many_sorts, between_sorts, all_of_one, all_then_one}
-use Rattle.kat_grammar.proofs.SmallForms.{apart, some_made, name_of, number_of, numbers_of, type_of, params_of, fields_of, members_of, one_block, one_pre, one_post, one_entry, one_res, one_within, one_change, one_else, no_pre, no_post, no_entry, no_res, no_within, no_change, no_else, no_register_list, no_cells_list, name_fits, number_fits, only_many, type_fits, params_fit, fields_fit, members_fit, each_number}
+use Rattle.kat_grammar.proofs.SmallForms.{apart, some_made, name_of, number_of, numbers_of, type_of, params_of, fields_of, members_of, small, no_register_list, no_cells_list, name_fits, number_fits, only_many, type_fits, params_fit, fields_fit, members_fit, each_number}
 use Rattle.kat_grammar.proofs.ExpressionForms.{found_holds, expr_of, expr_fits}
 use Rattle.kat_grammar.proofs.StatementForms.{stm_of, stms_of, stm_fits, stms_fit}
 use Rattle.kat_grammar.proofs.AssertionForms.{assertion_of, assertion_fits}
@@ -178,7 +178,7 @@ phase_atom (token.Number n) fit = absurd (let e = fits_of_token sort.Phase (toke
 
 phase_list : (parts : List Tree) → PhaseOf (variant.List parts)
 phase_list parts fit =
-    let one = held_list sort.Phase (codes "block") sort.Name one_block parts fit in
+    let one = held_list sort.Phase (codes "block") sort.Name small.one_block parts fit in
     let x = name_of one.0 one.2 in
     (phase.Block x.0, (ap (λ t. form (codes "block") (t ∷ [])) x.1.0 ∙ ap variant.List (sym one.1), x.1.1))
 
@@ -199,12 +199,6 @@ holding_of s w tree has lacks fit =
     (a.0, (ap (λ t. form w (t ∷ [])) a.1.0 ∙ part.1, a.1.1))
 
 -- a case of a dispatch, and steps
-pub one_when : HasOneForm sort.When (codes "when") (exactly (sort.Word ∷ sort.Expression ∷ sort.Phase ∷ []))
-one_when = record { none = refl; some = λ x. refl; rows = refl; formed = refl }
-
-pub one_steps : HasOneForm sort.Steps (codes "steps") (many (sort.Word ∷ []) sort.Statement)
-one_steps = record { none = refl; some = λ x. refl; rows = refl; formed = refl }
-
 when-from : (ts : List Tree) → HasParts (sort.Expression ∷ sort.Phase ∷ []) ts → (w : When) × IsWhen (form (codes "when") ts) w
 when-from (t0 ∷ t1 ∷ []) h =
     let e = expr_of t0 h.fit.0 in let p = phase_of t1 h.fit.1.0 in
@@ -214,7 +208,7 @@ when-from _ h = absurd (omega (arith, h.count))
 when_of : (t : Tree) → FitsSort sort.When t → (w : When) × IsWhen t w
 when_of t fit =
     let list = is_list sort.When t (record { numbers = λ n. refl; names = λ x. refl }) fit in
-    let one = one_form sort.When (codes "when") _ one_when list.0 (subst (FitsSort sort.When) list.1 fit) in
+    let one = one_form sort.When (codes "when") _ small.one_when list.0 (subst (FitsSort sort.When) list.1 fit) in
     subst (λ u. (w : When) × IsWhen u w) (sym (list.1 ∙ ap variant.List one.1))
     (when-from one.0 (exact_parts sort.When (codes "when") (sort.Expression ∷ sort.Phase ∷ []) one.0 refl one.2))
 
@@ -227,7 +221,7 @@ whens_of (t ∷ ts) all =
 steps_of : (t : Tree) → FitsSort sort.Steps t → (ss : List Stm) × (form (codes "steps") (map tree_of_stm ss) ≡ t) × (every (map is_formed_stm ss) ≡ true)
 steps_of t fit =
     let list = is_list sort.Steps t (record { numbers = λ n. refl; names = λ x. refl }) fit in
-    let one = one_form sort.Steps (codes "steps") _ one_steps list.0 (subst (FitsSort sort.Steps) list.1 fit) in
+    let one = one_form sort.Steps (codes "steps") _ small.one_steps list.0 (subst (FitsSort sort.Steps) list.1 fit) in
     let has = many_parts sort.Steps (codes "steps") [] sort.Statement one.0 refl one.2 in
     let ss = stms_of one.0 (rest_fits [] sort.Statement (length one.0 - 0) one.0 has) in
     (ss.0, ap (form (codes "steps")) ss.1.0 ∙ sym (list.1 ∙ ap variant.List one.1), ss.1.1)
@@ -313,9 +307,9 @@ contract-from : (ts : List Tree) → FromParts (sort.Name ∷ sort.Params ∷ so
 contract-from (t0 ∷ t1 ∷ t2 ∷ t3 ∷ t4 ∷ []) h =
     let v0 = name_of t0 h.fit.0 in
     let v1 = params_of t1 h.fit.1.0 in
-    let v2 = holding_of sort.Pre (codes "pre") t2 one_pre no_pre h.fit.1.1.0 in
-    let q3 = held_in sort.Res (codes "res") sort.Name t3 one_res no_res h.fit.1.1.1.0 in let v3 = name_of q3.0 q3.2 in
-    let v4 = holding_of sort.Post (codes "post") t4 one_post no_post h.fit.1.1.1.1.0 in
+    let v2 = holding_of sort.Pre (codes "pre") t2 small.one_pre small.no_pre h.fit.1.1.0 in
+    let q3 = held_in sort.Res (codes "res") sort.Name t3 small.one_res small.no_res h.fit.1.1.1.0 in let v3 = name_of q3.0 q3.2 in
+    let v4 = holding_of sort.Post (codes "post") t4 small.one_post small.no_post h.fit.1.1.1.1.0 in
     (decl.Contract v0.0 v1.0 v2.0 v3.0 v4.0, (ap (form (codes "contract")) (same5 v0.1.0 v1.1 v2.1.0 (ap (λ t. form (codes "res") (t ∷ [])) v3.1.0 ∙ q3.1) v4.1.0), (and5 v0.1.1 v1.2 v2.1.1 v3.1.1 v4.1.1)))
 contract-from _ h = absurd (omega (arith, h.count))
 
@@ -324,8 +318,8 @@ lemma-from (t0 ∷ t1 ∷ t2 ∷ t3 ∷ t4 ∷ t5 ∷ []) h =
     let v0 = name_of t0 h.fit.0 in
     let v1 = params_of t1 h.fit.1.0 in
     let v2 = params_of t2 h.fit.1.1.0 in
-    let v3 = holding_of sort.Pre (codes "pre") t3 one_pre no_pre h.fit.1.1.1.0 in
-    let v4 = holding_of sort.Post (codes "post") t4 one_post no_post h.fit.1.1.1.1.0 in
+    let v3 = holding_of sort.Pre (codes "pre") t3 small.one_pre small.no_pre h.fit.1.1.1.0 in
+    let v4 = holding_of sort.Post (codes "post") t4 small.one_post small.no_post h.fit.1.1.1.1.0 in
     let v5 = steps_of t5 h.fit.1.1.1.1.1.0 in
     (decl.Lemma v0.0 v1.0 v2.0 v3.0 v4.0 v5.0, (ap (form (codes "lemma")) (same6 v0.1.0 v1.1 v2.1 v3.1.0 v4.1.0 v5.1), (and6 v0.1.1 v1.2 v2.2 v3.1.1 v4.1.1 v5.2)))
 lemma-from _ h = absurd (omega (arith, h.count))
@@ -345,9 +339,9 @@ untrusted-from _ h = absurd (omega (arith, h.count))
 block-from : (ts : List Tree) → FromParts (sort.Name ∷ sort.Entry ∷ sort.Within ∷ sort.Change ∷ []) (codes "block") ts
 block-from (t0 ∷ t1 ∷ t2 ∷ t3 ∷ []) h =
     let v0 = name_of t0 h.fit.0 in
-    let v1 = holding_of sort.Entry (codes "entry") t1 one_entry no_entry h.fit.1.0 in
-    let q2 = held_in sort.Within (codes "within") sort.Number t2 one_within no_within h.fit.1.1.0 in let v2 = number_of q2.0 q2.2 in
-    let q3 = held_in sort.Change (codes "change") sort.Expression t3 one_change no_change h.fit.1.1.1.0 in let v3 = expr_of q3.0 q3.2 in
+    let v1 = holding_of sort.Entry (codes "entry") t1 small.one_entry small.no_entry h.fit.1.0 in
+    let q2 = held_in sort.Within (codes "within") sort.Number t2 small.one_within small.no_within h.fit.1.1.0 in let v2 = number_of q2.0 q2.2 in
+    let q3 = held_in sort.Change (codes "change") sort.Expression t3 small.one_change small.no_change h.fit.1.1.1.0 in let v3 = expr_of q3.0 q3.2 in
     (decl.Block (record { name = v0.0; entry = v1.0; within = v2.0; change = v3.0 }), (ap (form (codes "block")) (same4 v0.1.0 v1.1.0 (ap (λ t. form (codes "within") (t ∷ [])) v2.1 ∙ q2.1) (ap (λ t. form (codes "change") (t ∷ [])) v3.1.0 ∙ q3.1)), and3 v0.1.1 v1.1.1 v3.1.1))
 block-from _ h = absurd (omega (arith, h.count))
 
@@ -374,7 +368,7 @@ dispatch-from ts h =
     let n = length ts - 1 in
     let ws = whens_of (take n ts) (before_fits sort.When sort.Else n ts h) in
     let last = one_last sort.When sort.Else n ts h in
-    let q = held_in sort.Else (codes "else") sort.Phase last.0 one_else no_else last.2 in
+    let q = held_in sort.Else (codes "else") sort.Phase last.0 small.one_else small.no_else last.2 in
     let p = phase_of q.0 q.2 in (
       decl.Dispatch ws.0 p.0,
       (

@@ -18,8 +18,9 @@ use Rattle.kat_ast.specs.Parts.{word, number, form, is_name, every, is_nonempty}
 use Rattle.kat_ast.specs.Types.{tree_of_type, tree_of_param, tree_of_params, is_formed_type, is_formed_param, are_formed_params}
 use Rattle.kat_shapes.specs.Forms.{exactly, many, form_of, newest}
 use Rattle.kat_shapes.specs.Fits.{fits}
-use Rattle.kat_grammar.specs.Parts.{FitsSort, HasParts, HoldsOne, HasNoAtoms}
+use Rattle.kat_grammar.specs.Parts.{FitsSort, HasParts}
 use Rattle.kat_grammar.specs.Forms.{IsName, IsType, IsParam, AreNames, AreParams}
+use Rattle.kat_grammar.specs.Laws.{SmallLists}
 use Rattle.kat_grammar.proofs.Fitting.{by_layer, token_fits, fits_of_token, form_fits, place_fits, many_sorts, all_of_one, no_list, exact_place, many_place, rest_fits, some_fit, held_list, is_list}
 use Rattle.kat_grammar.proofs.Lists.{both, same2, same_first}
 
@@ -28,54 +29,28 @@ pub apart : (a b : Bool) → a && b ≡ true → (a ≡ true) × (b ≡ true)
 apart true b e = (refl, e)
 apart false b e = absurd (cc)
 
--- the sorts of a word and one part
-pub one_bits : HoldsOne sort.TypeName (codes "bits") sort.Number
-one_bits = record { none = refl; some = λ x. refl; rows = refl; formed = refl }
-
-pub one_block : HoldsOne sort.Phase (codes "block") sort.Name
-one_block = record { none = refl; some = λ x. refl; rows = refl; formed = refl }
-
-pub one_pre : HoldsOne sort.Pre (codes "pre") sort.Assertion
-one_pre = record { none = refl; some = λ x. refl; rows = refl; formed = refl }
-
-pub one_post : HoldsOne sort.Post (codes "post") sort.Assertion
-one_post = record { none = refl; some = λ x. refl; rows = refl; formed = refl }
-
-pub one_entry : HoldsOne sort.Entry (codes "entry") sort.Assertion
-one_entry = record { none = refl; some = λ x. refl; rows = refl; formed = refl }
-
-pub one_res : HoldsOne sort.Res (codes "res") sort.Name
-one_res = record { none = refl; some = λ x. refl; rows = refl; formed = refl }
-
-pub one_within : HoldsOne sort.Within (codes "within") sort.Number
-one_within = record { none = refl; some = λ x. refl; rows = refl; formed = refl }
-
-pub one_change : HoldsOne sort.Change (codes "change") sort.Expression
-one_change = record { none = refl; some = λ x. refl; rows = refl; formed = refl }
-
-pub one_else : HoldsOne sort.Else (codes "else") sort.Phase
-one_else = record { none = refl; some = λ x. refl; rows = refl; formed = refl }
-
-pub no_pre : HasNoAtoms sort.Pre
-no_pre = record { numbers = λ n. refl; names = λ x. refl }
-
-pub no_post : HasNoAtoms sort.Post
-no_post = record { numbers = λ n. refl; names = λ x. refl }
-
-pub no_entry : HasNoAtoms sort.Entry
-no_entry = record { numbers = λ n. refl; names = λ x. refl }
-
-pub no_res : HasNoAtoms sort.Res
-no_res = record { numbers = λ n. refl; names = λ x. refl }
-
-pub no_within : HasNoAtoms sort.Within
-no_within = record { numbers = λ n. refl; names = λ x. refl }
-
-pub no_change : HasNoAtoms sort.Change
-no_change = record { numbers = λ n. refl; names = λ x. refl }
-
-pub no_else : HasNoAtoms sort.Else
-no_else = record { numbers = λ n. refl; names = λ x. refl }
+-- the small lists: each has the one form of its row, and no atom is one
+pub small : SmallLists
+small = record {
+  one_bits = record { none = refl; some = λ x. refl; rows = refl; formed = refl };
+  one_block = record { none = refl; some = λ x. refl; rows = refl; formed = refl };
+  one_pre = record { none = refl; some = λ x. refl; rows = refl; formed = refl };
+  one_post = record { none = refl; some = λ x. refl; rows = refl; formed = refl };
+  one_entry = record { none = refl; some = λ x. refl; rows = refl; formed = refl };
+  one_res = record { none = refl; some = λ x. refl; rows = refl; formed = refl };
+  one_within = record { none = refl; some = λ x. refl; rows = refl; formed = refl };
+  one_change = record { none = refl; some = λ x. refl; rows = refl; formed = refl };
+  one_else = record { none = refl; some = λ x. refl; rows = refl; formed = refl };
+  one_when = record { none = refl; some = λ x. refl; rows = refl; formed = refl };
+  one_steps = record { none = refl; some = λ x. refl; rows = refl; formed = refl };
+  no_pre = record { numbers = λ n. refl; names = λ x. refl };
+  no_post = record { numbers = λ n. refl; names = λ x. refl };
+  no_entry = record { numbers = λ n. refl; names = λ x. refl };
+  no_res = record { numbers = λ n. refl; names = λ x. refl };
+  no_within = record { numbers = λ n. refl; names = λ x. refl };
+  no_change = record { numbers = λ n. refl; names = λ x. refl };
+  no_else = record { numbers = λ n. refl; names = λ x. refl };
+}
 
 -- at least one was made of at least one part
 pub some_made : {A : Type 0} → (written : A → Tree) (made : List A) (parts : List Tree) → map written made ≡ parts → (n : ℕ) → length parts ≡ n + 1 → is_nonempty made ≡ true
@@ -233,7 +208,7 @@ type_atom (token.Number n) fit = absurd (let e = fits_of_token sort.TypeName (to
 
 type_list : (parts : List Tree) → TypeOf (variant.List parts)
 type_list parts fit =
-    let one = held_list sort.TypeName (codes "bits") sort.Number one_bits parts fit in
+    let one = held_list sort.TypeName (codes "bits") sort.Number small.one_bits parts fit in
     let n = number_of one.0 one.2 in
     (type.Bits n.0, (ap (λ t. form (codes "bits") (t ∷ [])) n.1 ∙ ap variant.List (sym one.1), refl))
 

@@ -17,7 +17,7 @@ use Rattle.kat_grammar.specs.Forms.{IsExpr, AreExprs}
 
 -- what a reader of forms uses of trees that fit: what their parts are, and that these fit
 pub record FormLaws : Type 0 where
-  -- A list that a word begins, and one told by where it stands: their parts are of the form's sorts.
+  -- A list that a word begins, and one told by where it is: their parts are of the form's sorts.
   pub exact_parts : (s : Sort) (w : List ℕ) (sorts : List Sort) (parts : List Tree) →
       form_of newest s (Some w) ≡ Some (exactly (sort.Word ∷ sorts)) → FitsSort s (form w parts) →
       HasParts sorts parts

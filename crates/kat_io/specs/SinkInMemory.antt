@@ -1,8 +1,9 @@
 -- A sink that keeps what it takes.
-use Rattle.std.specs.Prelude.{ℕ, ◌+◌, ◌-◌, ◌^◌, ◌==◌, Bool, true, false, List, [], min, Some, Result, Ok, Err}
+use Rattle.std.specs.Prelude.{ℕ, ◌==◌, Bool, true, false, List, [], Some, Result, Ok, Err}
 use Rattle.std.specs.List.{list_any}
 use Rattle.kat_io.specs.declared.writing.SinkError.{SinkError}
 use Rattle.kat_io.specs.declared.writing.SinkError.TheVariants.{Failed}
+use Rattle.kat_io.specs.Counts.{next_count}
 use Rattle.kat_io.specs.Seen.{SinkSeen}
 
 -- what the sink took, the numbers of the writes that fail, and how many writes were made and failed
@@ -22,7 +23,7 @@ seen_sink sink = record { contents = Some sink.contents; faults = sink.faults }
 
 -- the number of the next write, counted from 1; it stays at the greatest u64
 abbrev pub next_write : SinkState → ℕ
-next_write sink = min (sink.writes + 1) (2 ^ 64 - 1)
+next_write sink = next_count sink.writes
 
 -- whether the next write is one of those that fail
 abbrev pub next_write_fails : SinkState → Bool

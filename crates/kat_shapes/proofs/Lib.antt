@@ -7,4 +7,3 @@ mod Judgements
 mod Later
 mod Going
 mod Operations
-mod Rests

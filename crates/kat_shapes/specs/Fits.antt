@@ -1,13 +1,12 @@
 -- Whether a tree and all trees in it can be read as a sort, computed from its parts.
-use Rattle.std.specs.Prelude.{◌≡◌, ℕ, Bool, true, false, ◌&&◌, List, [], ◌∷◌, length, map, Option, Some, None}
-use Rattle.std.specs.List.{AllByRecursion}
+use Rattle.std.specs.Prelude.{ℕ, Bool, true, false, ◌&&◌, List, [], ◌∷◌, length, Option, Some, None}
 use Rattle.kat_tree.specs.declared.tree.Token.{Token}
 use Rattle.kat_tree.specs.declared.tree.Token.TheVariants as token
 use Rattle.kat_tree.specs.declared.tree.Tree.{Tree}
 use Rattle.kat_tree.specs.declared.tree.Tree.TheOpen.{Tree-F}
 use Rattle.kat_tree.specs.declared.tree.Tree.TheFolds.{fold-Tree}
 use Rattle.kat_shapes.specs.declared.sort.Sort.{Sort}
-use Rattle.kat_shapes.specs.Forms.{Form, sorts_of, sorts_for, fits_token, newest}
+use Rattle.kat_shapes.specs.Forms.{sorts_for, fits_token, newest}
 
 -- a tree seen by who reads it as this or that: the name that it is, if it is one, and what it fits
 pub record Judged : Type 0 where
@@ -60,12 +59,3 @@ judged = judged_in newest
 -- whether a tree fits a sort in the newest version
 abbrev pub fits : Sort → Tree → Bool
 fits sort tree = (judged tree).fits sort
-
--- the parts of a list fit the sorts that a form has for so many, one each
-abbrev pub ListFits : ℕ → Form → List Tree → Type 0
-ListFits version form parts =
-    list_fits (sorts_of form (length parts)) (map (judged_in version) parts) ≡ true
-
--- each tree fits the sort
-abbrev pub AllFit : ℕ → Sort → List Tree → Type 0
-AllFit version sort = AllByRecursion (λ (t : Tree). fits_in version sort t ≡ true)

@@ -1,13 +1,12 @@
 //! Laws of what is read where. Each function here does nothing: its contract is the law.
 
-ghost use Rattle.std.specs.Prelude.{◌≡◌, ◌↔◌, ◌⊎◌, ◌≤◌, ◌+◌, ◌-◌, ℕ, true, List, length, take, drop, replicate, Some};
+ghost use Rattle.std.specs.Prelude.{◌≡◌, ◌↔◌, ◌⊎◌, ◌≤◌, ℕ, true, List, Some};
 ghost use Rattle.kat_tree.specs.declared.tree.Tree.{Tree};
 ghost use Rattle.kat_tree.specs.declared.tree.Tree.TheVariants as variant;
 ghost use Rattle.kat_tree.specs.Preorder.{tree_at};
 ghost use Rattle.kat_shapes.specs.declared.sort.Sort.{Sort as SortName};
 ghost use Rattle.kat_shapes.specs.declared.misfit.Misfit.{Misfit as AnyMisfit};
-ghost use Rattle.kat_shapes.specs.Fits.{Judged, list_fits, fits, fits_in, ListFits, AllFit};
-ghost use Rattle.kat_shapes.specs.Forms.{Form, many, sorts_of};
+ghost use Rattle.kat_shapes.specs.Fits.{fits, fits_in};
 ghost use Rattle.kat_shapes.specs.Places.{IsRead, AllHaveForm, HaveForm, IsFirstMisfit, PartsFit};
 
 /// What is read at a place.
@@ -49,25 +48,4 @@ pub fn fitting()
     // A list whose parts fit the sorts of a form, one each, fits.
     ensures list { (v : ℕ) (sort : SortName) (parts : List Tree) →
         PartsFit v sort parts → fits_in v sort (variant.List parts) ≡ true }
-{}
-
-/// What the parts of a list fit, where any number of them is of one sort.
-pub fn parts_of_lists()
-    // The set parts stand there.
-    ensures count { (form : Form) (n : ℕ) (parts : List Judged) →
-        list_fits (sorts_of form n) parts ≡ true → length form.first + length form.last ≤ n }
-    // What stands between the first and the last parts.
-    ensures middle { (v : ℕ) (form : Form) (sort : SortName) (parts : List Tree) →
-        form.middle ≡ Some sort → ListFits v form parts →
-        let ends = length form.first + length form.last in
-        AllFit v sort (take (length parts - ends) (drop (length form.first) parts)) }
-    // The parts from a position on, where the first ones from there on are of the one sort too.
-    ensures rest { (v : ℕ) (sort : SortName) (k n : ℕ) (first : List SortName) (parts : List Tree) →
-        drop k first ≡ replicate n sort → k + n ≡ length first →
-        ListFits v (many first sort) parts →
-        AllFit v sort (take (length parts - k) (drop k parts)) }
-    // All parts, where the first ones are of the one sort too.
-    ensures all { (v : ℕ) (sort : SortName) (n : ℕ) (first : List SortName) (parts : List Tree) →
-        first ≡ replicate n sort → n ≡ length first → ListFits v (many first sort) parts →
-        AllFit v sort parts }
 {}

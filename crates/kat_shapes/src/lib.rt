@@ -18,7 +18,7 @@ mod version;
 mod wanted;
 
 pub use judging::{first_word, judge};
-pub use laws::{fitting, one_judgement, parts_of_lists, readings};
+pub use laws::{fitting, one_judgement, readings};
 pub use misfit::Misfit;
 pub use sort::Sort;
 pub use wanted::Wanted;

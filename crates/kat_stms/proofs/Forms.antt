@@ -1,8 +1,9 @@
 -- Forms from their parts, and one more of the parts that are read.
 use Rattle.std.proofs.Common.{◌≡◌, ℕ, Bool, true, false, ◌+◌, ◌<◌, ◌&&◌, List, [], ◌∷◌, ◌++◌, length, map, refl, ap, sym, subst, ◌∙◌, arith}
-use Rattle.std.specs.Prelude.{codes}
+use Rattle.std.specs.Prelude.{codes, Result, IfOk}
 use Rattle.std.proofs.lemmas.List.{map-append}
 use Rattle.kat_tree.specs.declared.tree.Tree.{Tree}
+use Rattle.kat_tree.specs.declared.tree.Tree.TheVariants as variant
 use Rattle.kat_ast.specs.declared.expr.Expr.{Expr}
 use Rattle.kat_ast.specs.declared.type_name.TypeName.{TypeName}
 use Rattle.kat_ast.specs.declared.assertion.Assertion.{Assertion}
@@ -18,7 +19,7 @@ use Rattle.kat_ast.specs.declared.stm.Stm.TheVariants.{rolls-Seq, rolls-Case, ro
 use Rattle.kat_ast.specs.declared.stm.Stm.TheOpen as layer
 use Rattle.kat_ast.specs.declared.stm.Stm.TheShapes.{former-Stm-Case-1-at-2 as case_arm, former-Stm-Match-1-at-3 as match_arm}
 use Rattle.kat_ast.specs.declared.stm.Stm.TheFolds.{fold-roll-Stm}
-use Rattle.kat_ast.specs.Parts.{form, is_name, every, is_nonempty}
+use Rattle.kat_ast.specs.Parts.{word, form, is_name, every, is_nonempty}
 use Rattle.kat_ast.specs.Types.{tree_of_param, is_formed_type, is_formed_param}
 use Rattle.kat_ast.specs.Expressions.{tree_of_expr, is_formed_expr}
 use Rattle.kat_ast.specs.Assertions.{assertion_tree, tree_of_assertion, assertion_formed, is_formed_assertion}
@@ -88,6 +89,12 @@ Match-is parts rest e arms same f0 are = (
       ∙ both (is_formed_expr e) (every (map is_formed_match_arm (map (match_arm.map Stm Bool is_formed_stm) arms))) f0
       (ap every (map_map is_formed_match_arm (match_arm.map Stm Bool is_formed_stm) arms) ∙ are.1),
 )
+
+-- the whole list is what its parts behind its word are in the form of that word
+pub arm_is : {A E : Type 0} (Is : Tree → A → Type 0) (tree : Tree) (all parts behind : List Tree) (x w : List ℕ) (result : Result A E) → tree ≡ variant.List all → parts ≡ all → word x ∷ behind ≡ parts → x ≡ w →
+    IfOk result (Is (form w behind)) → IfOk result (Is tree)
+arm_is Is tree all parts behind x w result is slice split same =
+    subst (λ t. IfOk result (Is t)) (ap (λ u. form u behind) (sym same) ∙ ap variant.List (split ∙ slice) ∙ sym is)
 
 -- one more of the parts was read
 pub one_more : {A : Type 0} (laws : FormLaws) (written : A → Tree) (formed : A → Bool)

@@ -98,9 +98,9 @@ fn if_in(alloc: Global, parts: &[Tree]) -> Result<Assertion, AllocError>
         unreachable!();
     };
     Ok(Assertion::If {
-        test: expr_in(alloc, test)?,
         then: Boxed::new(alloc, assertion_in(alloc, then)?)?,
         otherwise: Boxed::new(alloc, assertion_in(alloc, otherwise)?)?,
+        test: expr_in(alloc, test)?,
     })
 }
 
@@ -114,8 +114,8 @@ fn exists_in(alloc: Global, parts: &[Tree]) -> Result<Assertion, AllocError>
     let [bound, body] = parts else {
         unreachable!();
     };
-    let Param { name, ty } = param_in(bound)?;
     let body = Boxed::new(alloc, assertion_in(alloc, body)?)?;
+    let Param { name, ty } = param_in(bound)?;
     Ok(Assertion::Exists { name, ty, body })
 }
 

@@ -106,9 +106,9 @@ fn if_in(alloc: Global, parts: &[Tree]) -> Result<Stm, AllocError>
         unreachable!();
     };
     Ok(Stm::If {
-        test: expr_in(alloc, test)?,
         then: Boxed::new(alloc, stm_in(alloc, then)?)?,
         otherwise: Boxed::new(alloc, stm_in(alloc, otherwise)?)?,
+        test: expr_in(alloc, test)?,
     })
 }
 
@@ -123,8 +123,8 @@ fn case_in(alloc: Global, parts: &[Tree]) -> Result<Stm, AllocError>
         unreachable!();
     };
     Ok(Stm::Case {
-        value: expr_in(alloc, value)?,
         arms: case_arms_in(alloc, arms)?,
+        value: expr_in(alloc, value)?,
     })
 }
 
@@ -139,8 +139,8 @@ fn match_in(alloc: Global, parts: &[Tree]) -> Result<Stm, AllocError>
         unreachable!();
     };
     Ok(Stm::Match {
-        value: expr_in(alloc, value)?,
         arms: match_arms_in(alloc, arms)?,
+        value: expr_in(alloc, value)?,
     })
 }
 

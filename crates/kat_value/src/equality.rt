@@ -33,11 +33,9 @@ pub fn same_value(a: &Value, b: &Value) -> bool
             Value::Made {
                 of: other_of,
                 ctor: other_ctor,
-                inner: other_inner,
+                inner: other,
             },
-        ) => {
-            *of == *other_of && *ctor == *other_ctor && same_value(inner.get(), other_inner.get())
-        }
+        ) => *of == *other_of && *ctor == *other_ctor && same_value(inner.get(), other.get()),
         (
             Value::Rec { of, fields },
             Value::Rec {

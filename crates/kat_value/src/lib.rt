@@ -27,7 +27,7 @@ pub use equality::same_value;
 pub use laws::{equality_is_tested, types_of_values, words_of_operations};
 pub use op::Op;
 pub use op_types::{
-    accepts, agree, fixed_behind, same_type, takes, type_given, type_of_op, widths_fit,
+    accepts, agree, bits_of, fixed_behind, same_type, takes, type_given, type_of_op, widths_fit,
 };
 pub use operate::operate_on_two;
 pub use signature::{Signature, signature_of};

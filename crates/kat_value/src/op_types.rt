@@ -142,8 +142,8 @@ fn joined_bits(args: &[Option<Ty>]) -> Option<Ty>
     }
 }
 
-/// Bits of this width, where it is one.
-fn bits_of(width: u64) -> Option<Ty>
+/// The type of the numbers of so many bits, where this is a width.
+pub fn bits_of(width: u64) -> Option<Ty>
     ensures { result ≡ bits_of width }
 {
     if is_width(width) {

@@ -111,7 +111,7 @@ fn types_of_operations(rt: HostRuntime) -> Result<(), Fail> {
     Ok(())
 }
 
-/// An enum with two members, a union with a constructor of it, and a record of the union and 8 bits.
+/// An enum with two members, a union with a constructor of it, and a record of that and 8 bits.
 fn declared(alloc: Global) -> Result<Types, AllocError> {
     let mut members = Items::new(alloc);
     members.push(Text::new(alloc, "Red")?)?;

@@ -1,8 +1,7 @@
-use Rattle.std.proofs.Common.{[], ◌∷◌, ap, ◌∙◌}
 use Rattle.std.specs.Prelude.{codes}
-use Rattle.kat_tree.specs.declared.tree.Tree.TheVariants as variant
 use Rattle.kat_shapes.specs.declared.sort.Sort.TheVariants as sort
-use Rattle.kat_ast.specs.Parts.{word}
+use Rattle.kat_grammar.specs.Forms.{IsAssertion, IsHolding}
+use Rattle.kat_forms.proofs.Forms.{holding_is, paired_are, read_as}
 use Rattle.kat_forms.proofs.declarations.conditions_in.Goals as goal
 
 pub part_of-requires : goal.part_of-requires
@@ -22,7 +21,7 @@ assertion_in-requires-2 c =
 pub returns : goal.returns
 returns c =
     let pre = c.form_laws.ensures.held_part sort.Pre (codes "pre") sort.Assertion c.small_lists.ensures.one_pre c.part_of.ensures.0 c.args.pre.now c.part_of.result.now c.part_of.ensures.1 c.requires.pre in
-    let post = c.form_laws.ensures.held_part sort.Post (codes "post") sort.Assertion c.small_lists.ensures.one_post c.part_of-2.ensures.0 c.args.post.now c.part_of-2.result.now c.part_of-2.ensures.1 c.requires.post in (
-      (ap (λ t. variant.List (word (codes "pre") ∷ t ∷ [])) c.in_ok-pre.ensures.0 ∙ pre.0, c.in_ok-pre.ensures.1),
-      (ap (λ t. variant.List (word (codes "post") ∷ t ∷ [])) c.in_ok-assertion_in.ensures.0 ∙ post.0, c.in_ok-assertion_in.ensures.1),
-    )
+    let post = c.form_laws.ensures.held_part sort.Post (codes "post") sort.Assertion c.small_lists.ensures.one_post c.part_of-2.ensures.0 c.args.post.now c.part_of-2.result.now c.part_of-2.ensures.1 c.requires.post in
+    paired_are (IsHolding (codes "pre") c.args.pre.now) (IsHolding (codes "post") c.args.post.now) _ c.in_ok-pre.pre _ c.paired.ensures
+    (holding_is (codes "pre") c.args.pre.now c.part_of.result.now _ pre.0 c.in_ok-pre.ensures)
+    (read_as (IsAssertion c.part_of-2.result.now) (IsHolding (codes "post") c.args.post.now) (λ a. holding_is (codes "post") c.args.post.now c.part_of-2.result.now a post.0) _ c.assertion_in-2.ensures)

@@ -1,9 +1,10 @@
--- The parts of each form fit.
+-- The parts of each form fit, and what they are is what the whole is.
 use Rattle.std.proofs.Common.{[], ◌∷◌, refl, ap, sym, subst, ◌∙◌}
 use Rattle.std.specs.Prelude.{codes}
 use Rattle.kat_tree.specs.declared.tree.Tree.TheVariants as variant
 use Rattle.kat_shapes.specs.declared.sort.Sort.TheVariants as sort
 use Rattle.kat_grammar.specs.Parts.{FitsSort}
+use Rattle.kat_forms.proofs.Forms.{arm_is}
 use Rattle.kat_forms.proofs.declarations.decl_in.Goals as goal
 
 pub split-requires : goal.split-requires
@@ -59,3 +60,48 @@ block_in-requires c = c.form_laws.ensures.exact_parts sort.Declaration (codes "b
 
 pub boot_in-requires : goal.boot_in-requires
 boot_in-requires c = c.form_laws.ensures.exact_parts sort.Declaration (codes "boot") (sort.Name ∷ []) _ refl (c.form_laws.ensures.arm_fits sort.Declaration (codes "boot") _ _ _ c.split.ensures c.in-boot.is (subst (FitsSort sort.Declaration) (c.in-List.is ∙ ap variant.List (sym c.as_slice.ensures)) c.requires))
+
+pub returns-in-enum : goal.returns-in-enum
+returns-in-enum c = arm_is _ _ _ _ _ (codes "enum") _ c.in-List.is c.as_slice.ensures c.split.ensures c.in-enum.is c.enum_in.ensures
+
+pub returns-in-union : goal.returns-in-union
+returns-in-union c = arm_is _ _ _ _ _ (codes "union") _ c.in-List.is c.as_slice.ensures c.split.ensures c.in-union.is c.union_in.ensures
+
+pub returns-in-record : goal.returns-in-record
+returns-in-record c = arm_is _ _ _ _ _ (codes "record") _ c.in-List.is c.as_slice.ensures c.split.ensures c.in-record.is c.record_in.ensures
+
+pub returns-in-register : goal.returns-in-register
+returns-in-register c = arm_is _ _ _ _ _ (codes "register") _ c.in-List.is c.as_slice.ensures c.split.ensures c.in-register.is c.register_in.ensures
+
+pub returns-in-code : goal.returns-in-code
+returns-in-code c = arm_is _ _ _ _ _ (codes "code") _ c.in-List.is c.as_slice.ensures c.split.ensures c.in-code.is c.code_in.ensures
+
+pub returns-in-region : goal.returns-in-region
+returns-in-region c = arm_is _ _ _ _ _ (codes "region") _ c.in-List.is c.as_slice.ensures c.split.ensures c.in-region.is c.region_in.ensures
+
+pub returns-in-pred : goal.returns-in-pred
+returns-in-pred c = arm_is _ _ _ _ _ (codes "pred") _ c.in-List.is c.as_slice.ensures c.split.ensures c.in-pred.is c.predicate_in.ensures
+
+pub returns-in-fun : goal.returns-in-fun
+returns-in-fun c = arm_is _ _ _ _ _ (codes "fun") _ c.in-List.is c.as_slice.ensures c.split.ensures c.in-fun.is c.fun_in.ensures
+
+pub returns-in-contract : goal.returns-in-contract
+returns-in-contract c = arm_is _ _ _ _ _ (codes "contract") _ c.in-List.is c.as_slice.ensures c.split.ensures c.in-contract.is c.contract_in.ensures
+
+pub returns-in-lemma : goal.returns-in-lemma
+returns-in-lemma c = arm_is _ _ _ _ _ (codes "lemma") _ c.in-List.is c.as_slice.ensures c.split.ensures c.in-lemma.is c.lemma_in.ensures
+
+pub returns-in-step : goal.returns-in-step
+returns-in-step c = arm_is _ _ _ _ _ (codes "step") _ c.in-List.is c.as_slice.ensures c.split.ensures c.in-step.is c.step_in.ensures
+
+pub returns-in-dispatch : goal.returns-in-dispatch
+returns-in-dispatch c = arm_is _ _ _ _ _ (codes "dispatch") _ c.in-List.is c.as_slice.ensures c.split.ensures c.in-dispatch.is c.dispatch_in.ensures
+
+pub returns-in-untrusted : goal.returns-in-untrusted
+returns-in-untrusted c = arm_is _ _ _ _ _ (codes "untrusted") _ c.in-List.is c.as_slice.ensures c.split.ensures c.in-untrusted.is c.untrusted_in.ensures
+
+pub returns-in-block : goal.returns-in-block
+returns-in-block c = arm_is _ _ _ _ _ (codes "block") _ c.in-List.is c.as_slice.ensures c.split.ensures c.in-block.is c.block_in.ensures
+
+pub returns-in-boot : goal.returns-in-boot
+returns-in-boot c = arm_is _ _ _ _ _ (codes "boot") _ c.in-List.is c.as_slice.ensures c.split.ensures c.in-boot.is c.boot_in.ensures

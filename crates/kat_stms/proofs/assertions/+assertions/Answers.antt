@@ -9,7 +9,7 @@ use Rattle.kat_ast.specs.Parts.{form}
 use Rattle.kat_ast.specs.declared.assertion.Assertion.TheVariants as made
 use Rattle.kat_grammar.specs.Forms.{IsAssertion}
 use Rattle.kat_grammar.specs.Parts.{FitsSort, HasParts}
-use Rattle.kat_stms.proofs.Forms.{one_more, Exists-is}
+use Rattle.kat_stms.proofs.Forms.{arm_is, one_more, Exists-is}
 use Rattle.kat_stms.proofs.assertions.+assertions.Goals as goal
 
 pub assertion_in-split-requires : goal.assertion_in-split-requires
@@ -79,3 +79,27 @@ exists_in-returns t c =
     (Exists-is parts bound.name bound.ty c.in_ok-assertion_in.field-0
     (c.form_laws.ensures.two_are parts c.bound-item.result c.body-item.result _ _ c.requires.count c.bound-item.is c.body-item.is c.in_ok-name.ensures.0 c.in_ok-assertion_in.ensures.0)
     c.in_ok-name.ensures.1 c.in_ok-assertion_in.ensures.1)
+
+pub assertion_in-returns-in-pure : goal.assertion_in-returns-in-pure
+assertion_in-returns-in-pure t c = arm_is IsAssertion _ _ _ _ _ (codes "pure") _ c.in-List.is c.as_slice.ensures c.split.ensures c.in-pure.is c.pure_in.ensures
+
+pub assertion_in-returns-in-reg : goal.assertion_in-returns-in-reg
+assertion_in-returns-in-reg t c = arm_is IsAssertion _ _ _ _ _ (codes "reg") _ c.in-List.is c.as_slice.ensures c.split.ensures c.in-reg.is c.register_in.ensures
+
+pub assertion_in-returns-in-cell : goal.assertion_in-returns-in-cell
+assertion_in-returns-in-cell t c = arm_is IsAssertion _ _ _ _ _ (codes "cell") _ c.in-List.is c.as_slice.ensures c.split.ensures c.in-cell.is c.cell_in.ensures
+
+pub assertion_in-returns-in-star : goal.assertion_in-returns-in-star
+assertion_in-returns-in-star t c = arm_is IsAssertion _ _ _ _ _ (codes "star") _ c.in-List.is c.as_slice.ensures c.split.ensures c.in-star.is c.star_in.ensures
+
+pub assertion_in-returns-in-if : goal.assertion_in-returns-in-if
+assertion_in-returns-in-if t c = arm_is IsAssertion _ _ _ _ _ (codes "if") _ c.in-List.is c.as_slice.ensures c.split.ensures c.in-if.is c.if_in.ensures
+
+pub assertion_in-returns-in-exists : goal.assertion_in-returns-in-exists
+assertion_in-returns-in-exists t c = arm_is IsAssertion _ _ _ _ _ (codes "exists") _ c.in-List.is c.as_slice.ensures c.split.ensures c.in-exists.is c.exists_in.ensures
+
+pub assertion_in-returns-in-pred : goal.assertion_in-returns-in-pred
+assertion_in-returns-in-pred t c = arm_is IsAssertion _ _ _ _ _ (codes "pred") _ c.in-List.is c.as_slice.ensures c.split.ensures c.in-pred.is c.predicate_in.ensures
+
+pub assertion_in-returns-in-region : goal.assertion_in-returns-in-region
+assertion_in-returns-in-region t c = arm_is IsAssertion _ _ _ _ _ (codes "region") _ c.in-List.is c.as_slice.ensures c.split.ensures c.in-region.is c.region_in.ensures

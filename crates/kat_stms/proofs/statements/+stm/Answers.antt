@@ -11,7 +11,7 @@ use Rattle.kat_ast.specs.Statements.{is_formed_stm, tree_of_stm}
 use Rattle.kat_shapes.specs.declared.sort.Sort.TheVariants as sort
 use Rattle.kat_grammar.specs.Parts.{FitsSort}
 use Rattle.kat_grammar.specs.Forms.{IsStm, case_tree, case_formed, match_tree, match_formed}
-use Rattle.kat_stms.proofs.Forms.{one_more, both, Seq-is, Case-is, Match-is, Fail-is}
+use Rattle.kat_stms.proofs.Forms.{arm_is, one_more, both, Seq-is, Case-is, Match-is, Fail-is}
 use Rattle.kat_stms.proofs.statements.+stm.Goals as goal
 
 pub stm_in-split-requires : goal.stm_in-split-requires
@@ -199,3 +199,48 @@ stm_in-returns-in-fail t c =
     let has = c.form_laws.ensures.exact_parts sort.Statement (codes "fail") [] behind refl (c.form_laws.ensures.arm_fits sort.Statement (codes "fail") _ _ _ c.split.ensures c.in-fail.is (subst (FitsSort sort.Statement) is c.requires)) in
     subst (λ v. IsStm v made.Fail) (ap (λ w. form w behind) (sym c.in-fail.is) ∙ ap variant.List c.split.ensures ∙ sym is)
     (Fail-is behind (c.form_laws.ensures.no_parts behind has.count))
+
+pub stm_in-returns-in-ret : goal.stm_in-returns-in-ret
+stm_in-returns-in-ret t c = arm_is IsStm _ _ _ _ _ (codes "ret") _ c.in-List.is c.as_slice.ensures c.split.ensures c.in-ret.is c.ret_in.ensures
+
+pub stm_in-returns-in-let : goal.stm_in-returns-in-let
+stm_in-returns-in-let t c = arm_is IsStm _ _ _ _ _ (codes "let") _ c.in-List.is c.as_slice.ensures c.split.ensures c.in-let.is c.let_in.ensures
+
+pub stm_in-returns-in-seq : goal.stm_in-returns-in-seq
+stm_in-returns-in-seq t c = arm_is IsStm _ _ _ _ _ (codes "seq") _ c.in-List.is c.as_slice.ensures c.split.ensures c.in-seq.is c.seq_in.ensures
+
+pub stm_in-returns-in-if : goal.stm_in-returns-in-if
+stm_in-returns-in-if t c = arm_is IsStm _ _ _ _ _ (codes "if") _ c.in-List.is c.as_slice.ensures c.split.ensures c.in-if.is c.if_in.ensures
+
+pub stm_in-returns-in-case : goal.stm_in-returns-in-case
+stm_in-returns-in-case t c = arm_is IsStm _ _ _ _ _ (codes "case") _ c.in-List.is c.as_slice.ensures c.split.ensures c.in-case.is c.case_in.ensures
+
+pub stm_in-returns-in-match : goal.stm_in-returns-in-match
+stm_in-returns-in-match t c = arm_is IsStm _ _ _ _ _ (codes "match") _ c.in-List.is c.as_slice.ensures c.split.ensures c.in-match.is c.match_in.ensures
+
+pub stm_in-returns-in-read : goal.stm_in-returns-in-read
+stm_in-returns-in-read t c = arm_is IsStm _ _ _ _ _ (codes "read") _ c.in-List.is c.as_slice.ensures c.split.ensures c.in-read.is c.read_in.ensures
+
+pub stm_in-returns-in-write : goal.stm_in-returns-in-write
+stm_in-returns-in-write t c = arm_is IsStm _ _ _ _ _ (codes "write") _ c.in-List.is c.as_slice.ensures c.split.ensures c.in-write.is c.write_in.ensures
+
+pub stm_in-returns-in-load : goal.stm_in-returns-in-load
+stm_in-returns-in-load t c = arm_is IsStm _ _ _ _ _ (codes "load") _ c.in-List.is c.as_slice.ensures c.split.ensures c.in-load.is c.load_in.ensures
+
+pub stm_in-returns-in-store : goal.stm_in-returns-in-store
+stm_in-returns-in-store t c = arm_is IsStm _ _ _ _ _ (codes "store") _ c.in-List.is c.as_slice.ensures c.split.ensures c.in-store.is c.store_in.ensures
+
+pub stm_in-returns-in-call : goal.stm_in-returns-in-call
+stm_in-returns-in-call t c = arm_is IsStm _ _ _ _ _ (codes "call") _ c.in-List.is c.as_slice.ensures c.split.ensures c.in-call.is c.call_in.ensures
+
+pub stm_in-returns-in-check : goal.stm_in-returns-in-check
+stm_in-returns-in-check t c = arm_is IsStm _ _ _ _ _ (codes "check") _ c.in-List.is c.as_slice.ensures c.split.ensures c.in-check.is c.check_in.ensures
+
+pub stm_in-returns-in-open : goal.stm_in-returns-in-open
+stm_in-returns-in-open t c = arm_is IsStm _ _ _ _ _ (codes "open") _ c.in-List.is c.as_slice.ensures c.split.ensures c.in-open.is c.open_in.ensures
+
+pub stm_in-returns-in-close : goal.stm_in-returns-in-close
+stm_in-returns-in-close t c = arm_is IsStm _ _ _ _ _ (codes "close") _ c.in-List.is c.as_slice.ensures c.split.ensures c.in-close.is c.close_in.ensures
+
+pub stm_in-returns-in-lemma : goal.stm_in-returns-in-lemma
+stm_in-returns-in-lemma t c = arm_is IsStm _ _ _ _ _ (codes "lemma") _ c.in-List.is c.as_slice.ensures c.split.ensures c.in-lemma.is c.lemma_in.ensures
