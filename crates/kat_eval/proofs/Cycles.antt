@@ -7,7 +7,7 @@ use Rattle.kat_syntax.specs.Tables.{Function, function_from, step_of}
 use Rattle.kat_syntax.specs.Machine.{MachineState}
 use Rattle.kat_syntax.specs.Meaning.{Locals, Outcome, inside, meaning}
 use Rattle.kat_syntax.specs.Cycle.{register_names, bound, elsewhere, body_of, call_of, CycleOutcome, OutOfCalls, as_cycle, cycle_of}
-use Rattle.kat_syntax.specs.Checked.{IsStepFunction}
+use Rattle.kat_syntax.specs.RunTables.{IsStepFunction}
 
 bound_none : (params : List Param) → bound params [] ≡ []
 bound_none [] = refl

@@ -1,5 +1,5 @@
 -- How the parts of a statement make the whole.
-use Rattle.std.proofs.Common.{◌≡◌, ℕ, ◌+◌, ◌≤◌, ◌∷◌, refl, ap, sym, ◌∙◌, arith, true, false, if◌then◌else◌}
+use Rattle.std.proofs.Common.{◌≡◌, ℕ, ◌+◌, ◌≤◌, ◌∷◌, refl, ap, sym, ◌∙◌, arith}
 use Rattle.kat_value.specs.declared.value.Value.{Value}
 use Rattle.kat_ast.specs.declared.expr.Expr.{Expr}
 use Rattle.kat_ast.specs.declared.stm.Stm.{Stm}
@@ -11,8 +11,8 @@ use Rattle.kat_syntax.specs.Tables.{Name}
 use Rattle.kat_ast.specs.Expressions.{trees_of_expr}
 use Rattle.kat_ast.specs.Statements.{trees_of_stm, stm_trees}
 use Rattle.kat_syntax.specs.Machine.{Progress}
-use Rattle.kat_syntax.specs.Meaning.{Locals, Outcome, Done, then_do, inside, is_true, value_of_expr, Calls, meaning}
-use Rattle.kat_syntax.specs.MeaningByParts.{LetByParts, IfByParts}
+use Rattle.kat_syntax.specs.Meaning.{Locals, Outcome, Done, then_do, inside, Calls, meaning}
+use Rattle.kat_syntax.specs.MeaningByParts.{LetByParts}
 use Rattle.kat_eval.specs.declared.running.StmEnd.{StmEnd}
 use Rattle.kat_eval.specs.declared.running.StmEnd.TheVariants.{Done as DoneEnd, Out as OutEnd, Fail as FailEnd}
 use Rattle.kat_eval.specs.declared.running.Site.TheVariants.{Here as HereEnd, There as ThereEnd}
@@ -64,28 +64,6 @@ module _ (names : List Name) (calls : Calls) (s : Stm) (locals : Locals) (p : Pr
       ∙ ap (λ m. then_do (inside 3 (meaning names calls m locals p)) (λ v next. inside (3 + trees_of_stm first) (meaning names calls second ((x, v) ∷ locals) next))) (sym a_is)
       ∙ ap (λ o. then_do (inside 3 o) (λ v next. inside (3 + trees_of_stm first) (meaning names calls second ((x, v) ∷ locals) next))) ended
       ∙ then_do_not_done end q 3 (λ v next. inside (3 + trees_of_stm first) (meaning names calls second ((x, v) ∷ locals) next)) not_done ∙ sym moved
-
-  -- an `if` whose condition is true
-  pub if_true : IfByParts → (test : Expr) (first second : Stm) (a : Stm) (value : Value) (q : Progress) (end result : StmEnd) →
-      s ≡ IfStm test first second → a ≡ first → value ≡ value_of_expr test locals → is_true value ≡ true →
-      meaning names calls a locals p ≡ as_outcome end q → as_outcome result q ≡ inside (2 + trees_of_expr test) (as_outcome end q) →
-      meaning names calls s locals p ≡ as_outcome result q
-  if_true law test first second a value q end result is a_is value_is holds ended moved =
-      ap (λ t. meaning names calls t locals p) is ∙ law names calls test first second locals p
-      ∙ ap (λ b. if b then inside (2 + trees_of_expr test) (meaning names calls first locals p) else inside (2 + trees_of_expr test + trees_of_stm first) (meaning names calls second locals p)) (ap is_true (sym value_is) ∙ holds)
-      ∙ ap (λ m. inside (2 + trees_of_expr test) (meaning names calls m locals p)) (sym a_is) ∙ ap (inside (2 + trees_of_expr test)) ended ∙ sym moved
-
-  -- an `if` whose condition is not true
-  pub if_false : IfByParts → (test : Expr) (first second : Stm) (a b : Stm) (value : Value) (q : Progress) (end result : StmEnd) →
-      s ≡ IfStm test first second → a ≡ first → b ≡ second → value ≡ value_of_expr test locals → is_true value ≡ false →
-      meaning names calls b locals p ≡ as_outcome end q → as_outcome result q ≡ inside (2 + trees_of_expr test + trees_of_stm a) (as_outcome end q) →
-      meaning names calls s locals p ≡ as_outcome result q
-  if_false law test first second a b value q end result is a_is b_is value_is fails ended moved =
-      ap (λ t. meaning names calls t locals p) is ∙ law names calls test first second locals p
-      ∙ ap (λ c. if c then inside (2 + trees_of_expr test) (meaning names calls first locals p) else inside (2 + trees_of_expr test + trees_of_stm first) (meaning names calls second locals p)) (ap is_true (sym value_is) ∙ fails)
-      ∙ ap (λ m. inside (2 + trees_of_expr test + trees_of_stm m) (meaning names calls second locals p)) (sym a_is)
-      ∙ ap (λ m. inside (2 + trees_of_expr test + trees_of_stm a) (meaning names calls m locals p)) (sym b_is)
-      ∙ ap (inside (2 + trees_of_expr test + trees_of_stm a)) ended ∙ sym moved
 
 -- a bound on a failure's tree may be raised
 pub IsBelow-more : (m n at : ℕ) (end : StmEnd) → m ≤ n → IsBelow m at end → IsBelow n at end

@@ -10,7 +10,7 @@ use crate::exec::exec;
 use crate::locals::Locals;
 use crate::running::{Running, Site, StmEnd};
 use kat_state::State;
-use kat_syntax::{Checked, Place};
+use kat_syntax::{Place, Runnable};
 use sqlite_items::Items;
 use std::alloc::Global;
 
@@ -36,7 +36,7 @@ pub enum CycleEnd {
 
 /// One cycle: a call of the step function with so many calls allowed. A call takes one from those
 /// that are left.
-pub fn cycle(alloc: Global, machine: &Checked, calls: u64, state: State) -> CycleEnd
+pub fn cycle(alloc: Global, machine: &Runnable, calls: u64, state: State) -> CycleEnd
     ensures { EndsAs result (cycle_of machine.now calls state) }
 {
     if calls == 0 {

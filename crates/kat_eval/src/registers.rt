@@ -6,7 +6,7 @@ ghost use Rattle.kat_syntax.specs.Meaning.{read_of, set_register};
 ghost use Rattle.kat_syntax.specs.Cycle.{register_names};
 
 use kat_state::State;
-use kat_syntax::Checked;
+use kat_syntax::Runnable;
 use kat_text::Text;
 use kat_value::{Value, copy_value};
 use std::alloc::{AllocError, Global};
@@ -14,7 +14,7 @@ use std::alloc::{AllocError, Global};
 /// A copy of a register's value; unit where there is no such register, which no typed text meets.
 pub fn read_register(
     alloc: Global,
-    machine: &Checked,
+    machine: &Runnable,
     state: &State,
     register: &Text,
 ) -> Result<Value, AllocError>
@@ -31,7 +31,7 @@ pub fn read_register(
 }
 
 /// Sets a register, if there is one of this name.
-pub fn write_register(machine: &Checked, state: &mut State, register: &Text, value: Value)
+pub fn write_register(machine: &Runnable, state: &mut State, register: &Text, value: Value)
     ensures { let place = position_of (register_names machine.now.decls) register.now in
         state.new ≡ set_register place value state.old }
 {

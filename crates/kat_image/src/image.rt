@@ -12,7 +12,7 @@ ghost use Rattle.kat_image.specs.declared.fault.ImageError.{ImageError};
 use crate::fault::ImageError;
 use crate::line::{assigned, first_line};
 use kat_state::State;
-use kat_syntax::Checked;
+use kat_syntax::Runnable;
 use kat_value::{Value, is_number};
 use sqlite_items::Items;
 use std::alloc::{AllocError, Global};
@@ -20,7 +20,7 @@ use std::alloc::{AllocError, Global};
 /// The state that an image stands for. What it does not name is as in `State::start`. `Line` comes
 /// exactly where the bytes are no image of the machine, and names the first line that is not of the
 /// format.
-pub fn read_image(alloc: Global, bytes: &[u8], machine: &Checked) -> Result<State, ImageError>
+pub fn read_image(alloc: Global, bytes: &[u8], machine: &Runnable) -> Result<State, ImageError>
     // What is read is what the bytes are an image of.
     ensures found { IfOk result (IsImageOf machine.now bytes.now) }
     // A state that the bytes are an image of is the answer, unless memory runs out.
@@ -62,7 +62,7 @@ struct Image {
 
 impl Image {
     /// Before the first line.
-    fn start(alloc: Global, machine: &Checked) -> Result<Image, AllocError>
+    fn start(alloc: Global, machine: &Runnable) -> Result<Image, AllocError>
         ensures state { IfOk result (λ image. image.state ≡ start_of machine.now) }
         ensures unset { let count = length (start_of machine.now).registers in
             IfOk result (λ image. image.is_set ≡ replicate count false) }
@@ -103,7 +103,7 @@ impl Image {
     }
 
     /// Takes a line, if it may stand behind those before it.
-    fn take(&mut self, machine: &Checked, line: &[u8]) -> bool
+    fn take(&mut self, machine: &Runnable, line: &[u8]) -> bool
         ensures { (lines : List Line) → IsReadTo machine.now lines self.old →
             Takes machine.now lines line.now result self.new }
     {

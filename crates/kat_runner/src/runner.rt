@@ -9,7 +9,7 @@ use crate::text::{push_boundary, push_ended, push_first_boundary};
 use kat_eval::{CycleEnd, cycle};
 use kat_io::{Sink, SinkError, writes_join};
 use kat_state::State;
-use kat_syntax::{Checked, Place};
+use kat_syntax::{Place, Runnable};
 use kat_text::{Text, TextBuilder};
 use kat_value::{Value, Values, copy_value, copy_values, same_value};
 use std::alloc::{AllocError, Global};
@@ -19,7 +19,7 @@ use std::alloc::{AllocError, Global};
 /// caller. Each cycle has `calls` calls.
 pub fn run<K: Sink>(
     alloc: Global,
-    machine: &Checked,
+    machine: &Runnable,
     state: State,
     cycles: u64,
     calls: u64,
@@ -54,7 +54,7 @@ pub enum RunEnd {
 /// The run, whose end is never a fault; a fault is the error.
 fn run_cycles<K: Sink>(
     alloc: Global,
-    machine: &Checked,
+    machine: &Runnable,
     mut state: State,
     cycles: u64,
     calls: u64,

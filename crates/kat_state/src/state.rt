@@ -4,7 +4,7 @@ ghost use Rattle.std.specs.Prelude.{◌≡◌, IfOk, slice_get, slice_set};
 ghost use Rattle.std.specs.Option.{option_copied};
 ghost use Rattle.kat_syntax.specs.Start.{first_value_of, start_of};
 
-use kat_syntax::{Checked, DeclForm, TypeName};
+use kat_syntax::{DeclForm, Runnable, TypeName};
 use kat_value::{Value, Values, is_width};
 use sqlite_items::Items;
 use std::alloc::{AllocError, Global};
@@ -31,7 +31,7 @@ impl Model for State {
 
 impl State {
     /// The state in which every register has the first value of its type: the number 0, or false.
-    pub fn start(alloc: Global, machine: &Checked) -> Result<State, AllocError>
+    pub fn start(alloc: Global, machine: &Runnable) -> Result<State, AllocError>
         ensures { IfOk result (λ s. s ≡ start_of machine.now) }
     {
         let mut registers = Items::new(alloc);

@@ -1,9 +1,8 @@
 -- The least fault of a list, and the first fault of a specification.
-use Rattle.std.specs.Prelude.{◌≡◌, ℕ, ◌+◌, ◌<◌, ◌≤◌, ◌==◌, ◌&&◌, ◌||◌, ◌⊎◌, nat_lt, Bool, true, false, if◌then◌else◌, List, [], ◌∷◌, Option, None, Some, IsSome, IfSome, MatchOption, refl}
+use Rattle.std.specs.Prelude.{◌≡◌, ℕ, ◌+◌, ◌==◌, ◌&&◌, ◌||◌, ◌⊎◌, nat_lt, true, false, if◌then◌else◌, List, [], ◌∷◌, Option, None, Some, IsSome, IfSome, MatchOption, refl}
 use Rattle.std.specs.List.{AllByRecursion}
 use Rattle.std.proofs.Common.{arith, inl, inr, ⊎_elim}
 use Rattle.std.proofs.lemmas.Bool.Decides.{nat_tests}
-use Rattle.kat_syntax.specs.declared.type_rule.TypeRule.{TypeRule}
 use Rattle.kat_syntax.specs.TypeRules.{Fault, IsAmong, IsLeastOf, code_of, comes_before, least_with, least_of}
 use Rattle.kat_syntax.specs.FirstTypeFault.{TypeFault, IsFirstFrom, or_first, first_from}
 

@@ -1,5 +1,5 @@
 -- The function at a number, among declarations that can be run.
-use Rattle.std.proofs.Common.{◌≡◌, ℕ, zero, suc, ◌+◌, ◌<◌, ◌^◌, ◌&&◌, ◌∷◌, refl, sym, ◌∙◌, ap, subst, arith, length, get_or, List, [], Some, IsSome, true, false}
+use Rattle.std.proofs.Common.{◌≡◌, ℕ, zero, suc, ◌+◌, ◌<◌, ◌^◌, ◌∷◌, refl, sym, ◌∙◌, ap, subst, arith, length, get_or, List, [], Some, IsSome, true, false}
 use Rattle.std.specs.Prelude.{option_and_then, slice_get}
 use Rattle.std.proofs.lemmas.Bool.{and_parts}
 use Rattle.std.proofs.lemmas.Option.{slice_get_read}
@@ -16,7 +16,7 @@ use Rattle.kat_ast.specs.Parts.{capped_count}
 use Rattle.kat_ast.specs.Types.{trees_of_type, trees_of_params}
 use Rattle.kat_ast.specs.Statements.{trees_of_stm}
 use Rattle.kat_ast.specs.Declarations.{trees_of_decl, IsDecl, tree_of_decl}
-use Rattle.kat_syntax.specs.Checked.{declared_at}
+use Rattle.kat_syntax.specs.RunTables.{declared_at}
 
 -- each declaration is of these forms
 first_at : (decls : List DeclForm) (k : ℕ) (decl : DeclForm) → are_first_decls decls ≡ true → k < length decls → decl ≡ get_or decls k decl → is_first_decl decl ≡ true

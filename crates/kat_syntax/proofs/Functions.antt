@@ -6,7 +6,7 @@ use Rattle.std.specs.Prelude.{option_and_then}
 use Rattle.kat_ast.specs.declared.decl.DeclForm.{DeclForm}
 use Rattle.kat_ast.specs.declared.decl.DeclForm.TheVariants as d
 use Rattle.kat_syntax.specs.Tables.{Name, function_at, function_from, is_function}
-use Rattle.kat_syntax.specs.Checked.{declared_at}
+use Rattle.kat_syntax.specs.RunTables.{declared_at}
 
 -- what stands at an index, and behind it
 rest_is : (decls : List DeclForm) (k : ℕ) (decl : DeclForm) → k < length decls → decl ≡ get_or decls k decl → drop k decls ≡ decl ∷ drop (k + 1) decls

@@ -4,3 +4,10 @@ pub mod TypingLaws
 pub mod Functions
 pub mod Registers
 pub mod FirstFaults
+pub mod NoFaults
+pub mod BothExpressions
+pub mod BothStatements
+pub mod BothNames
+pub mod BothTypings
+pub mod Finding
+pub mod Heading

@@ -9,7 +9,7 @@ use Rattle.kat_ast.specs.declared.stm.Stm.TheShapes.{former-Stm-Case-1-at-2 as c
 use Rattle.kat_ast.specs.declared.stm.Stm.TheOpen.{Stm-F, Ret, Let, Seq, If, Case, Match}
 use Rattle.kat_ast.specs.declared.stm.Stm.TheViews.{out-Stm, outs-Let, outs-If}
 use Rattle.kat_ast.specs.declared.stm.Stm.TheVariants.{Let as LetStm, If as IfStm}
-use Rattle.kat_ast.specs.declared.stm.Stm.TheFolds.{map-Stm, fold-Stm, fold-roll-Stm, fold_out-Stm, ind-Stm}
+use Rattle.kat_ast.specs.declared.stm.Stm.TheFolds.{map-Stm, fold-roll-Stm, fold_out-Stm, ind-Stm}
 use Rattle.kat_syntax.specs.Tables.{Name}
 use Rattle.kat_ast.specs.Expressions.{trees_of_expr}
 use Rattle.kat_ast.specs.Statements.{trees_of_case_arm, trees_of_match_arm, stm_trees, trees_of_stm}

@@ -1,5 +1,5 @@
 -- What holds of a specification without faults of typing.
-use Rattle.std.specs.Prelude.{◌≡◌, ℕ, ◌+◌, ◌≤◌, nat_le, ◌&&◌, ◌||◌, Bool, true, false, not, if◌then◌else◌, List, [], ◌∷◌, ◌++◌, length, Option, None, Some, IsSome, IfSome, is_some, unwrap_or, refl}
+use Rattle.std.specs.Prelude.{◌≡◌, ℕ, ◌+◌, ◌≤◌, nat_le, ◌||◌, Bool, true, false, not, if◌then◌else◌, List, [], ◌∷◌, ◌++◌, length, Option, None, Some, IsSome, IfSome, is_some, unwrap_or, refl}
 use Rattle.std.specs.Str.{bytes_eq}
 use Rattle.std.proofs.Common.{ap, sym, subst, ◌∙◌, arith, append_assoc, get_or}
 use Rattle.std.proofs.lemmas.List.{append-nil}
@@ -18,14 +18,7 @@ use Rattle.kat_syntax.specs.Cycle.{register_names}
 use Rattle.kat_syntax.specs.FirstForm.{is_first_decl, are_first_decls}
 use Rattle.kat_syntax.specs.Typing.{is_among, in_decl, unless, names_from, taken_faults, decl_faults, inner_faults, step_faults, count_faults}
 use Rattle.kat_syntax.specs.Runnable.{IsTyped, IsRunnable, HasCleanDecls, HasDistinctRegisters, HasStepFunction}
-
-empty_first : {A : Type 0} (xs ys : List A) → xs ++ ys ≡ [] → xs ≡ []
-empty_first [] ys e = refl
-empty_first (x ∷ xs) ys e = absurd (let f : x ∷ (xs ++ ys) ≡ [] = e in cc)
-
-empty_second : {A : Type 0} (xs ys : List A) → xs ++ ys ≡ [] → ys ≡ []
-empty_second [] ys e = e
-empty_second (x ∷ xs) ys e = absurd (let f : x ∷ (xs ++ ys) ≡ [] = e in cc)
+use Rattle.kat_syntax.proofs.NoFaults.{empty_first, empty_second}
 
 -- where a condition has no fault it holds
 held : (k tree code : ℕ) (holds : Bool) → in_decl k (unless holds tree code) ≡ [] → holds ≡ true

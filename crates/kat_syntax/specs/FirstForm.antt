@@ -1,5 +1,5 @@
 -- The forms of the machines that can be run today: registers of bits alone, and functions without
--- parameters.
+-- parameters. Declarations that have no part in a run may be of any form.
 use Rattle.std.specs.Prelude.{Bool, true, false, ◌&&◌, List, [], map}
 use Rattle.kat_value.specs.declared.op.Op.{Op}
 use Rattle.kat_value.specs.declared.op.Op.TheVariants.{Eq, Ult, Add}
@@ -12,7 +12,7 @@ use Rattle.kat_ast.specs.declared.stm.Stm.TheFolds.{fold-Stm}
 use Rattle.kat_ast.specs.declared.type_name.TypeName.TheVariants.{Unit as UnitName, Bits as BitsName}
 use Rattle.kat_ast.specs.declared.decl.RegisterKind.TheVariants.{Plain}
 use Rattle.kat_ast.specs.declared.decl.DeclForm.{DeclForm}
-use Rattle.kat_ast.specs.declared.decl.DeclForm.TheVariants.{Register, Fun, Step}
+use Rattle.kat_ast.specs.declared.decl.DeclForm.TheVariants.{Register, Predicate, Fun, Contract, Lemma, Step, Dispatch, Untrusted, Block, Boot}
 use Rattle.kat_ast.specs.Parts.{every}
 
 -- `eq`, `ult` and `add`
@@ -48,11 +48,18 @@ stm_first _ = false
 abbrev pub is_first_stm : Stm → Bool
 is_first_stm = fold-Stm Bool stm_first
 
--- `(register x (bits n) plain)`, `(fun x () unit S)` or `(step f)`
+-- `(register x (bits n) plain)`, `(fun x () unit S)`, `(step f)`, or what has no part in a run
 abbrev pub is_first_decl : DeclForm → Bool
 is_first_decl (Register x (BitsName width) Plain) = true
 is_first_decl (Fun x [] UnitName body) = is_first_stm body
 is_first_decl (Step f) = true
+is_first_decl (Predicate x inputs outputs definition) = true
+is_first_decl (Contract f names pre x post) = true
+is_first_decl (Lemma x params names pre post steps) = true
+is_first_decl (Dispatch cases otherwise) = true
+is_first_decl (Untrusted holds) = true
+is_first_decl (Block block) = true
+is_first_decl (Boot x) = true
 is_first_decl _ = false
 
 -- whether all declarations are of these forms

@@ -4,7 +4,7 @@ pub mod Tables
 pub mod Machine
 pub mod Meaning
 pub mod Cycle
-pub mod Checked
+pub mod RunTables
 pub mod Run
 pub mod Start
 pub mod StateText
@@ -13,6 +13,8 @@ pub mod Typing
 pub mod Runnable
 pub mod TypeRules
 pub mod Declares
+pub mod NamedItems
+pub mod DeclaredTypes
 pub mod Around
 pub mod Memories
 pub mod TypesWritten
@@ -21,4 +23,5 @@ pub mod TypingStatements
 pub mod TypingAssertions
 pub mod TypingDeclarations
 pub mod FirstTypeFault
+pub mod TypeTable
 pub mod Modes

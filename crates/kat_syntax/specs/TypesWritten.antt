@@ -1,5 +1,5 @@
 -- Types as they are written: their faults, their sizes, and what is in scope.
-use Rattle.std.specs.Prelude.{ℕ, ◌+◌, ◌&&◌, ◌||◌, not, max, Bool, if◌then◌else◌, List, [], ◌∷◌, ◌++◌, map, sum, take, Option, None, Some, is_some, slice_get, unwrap_or}
+use Rattle.std.specs.Prelude.{ℕ, ◌+◌, ◌||◌, not, max, Bool, if◌then◌else◌, List, [], ◌∷◌, ◌++◌, map, sum, take, Option, None, Some, is_some, slice_get, unwrap_or}
 use Rattle.std.specs.Str.{bytes_eq}
 use Rattle.kat_value.specs.declared.types.Ty.{Ty}
 use Rattle.kat_value.specs.declared.types.Ty.TheVariants as ty

@@ -1,6 +1,6 @@
--- The faults of typing: each condition that makes a specification ill-typed, at each tree where it
--- holds. All are said of the forms of the machines that can be run today; of other forms not yet
--- all.
+-- The faults of typing of the forms that can be run today: each condition that makes such a
+-- specification ill-typed, at each tree where it holds. Other forms have few faults here; those of
+-- all forms are in FirstTypeFault.
 use Rattle.std.specs.Prelude.{ℕ, ◌+◌, ◌^◌, ◌&&◌, ◌||◌, nat_le, nat_lt, Bool, true, false, not, if◌then◌else◌, List, [], ◌∷◌, ◌++◌, length, map, Option, None, Some, is_some, option_and_then, slice_get}
 use Rattle.std.specs.List.{list_any}
 use Rattle.std.specs.Option.{option_or, option_flatten}

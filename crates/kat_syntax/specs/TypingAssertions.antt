@@ -1,26 +1,23 @@
 -- Typing of assertions: the faults of each.
-use Rattle.std.specs.Prelude.{ℕ, ◌+◌, List, [], ◌∷◌, ◌++◌, map, Option, None, Some, option_and_then}
+use Rattle.std.specs.Prelude.{ℕ, ◌+◌, List, [], ◌∷◌, ◌++◌, map, Some}
 use Rattle.std.specs.Option.{option_map}
-use Rattle.kat_value.specs.declared.types.Ty.{Ty}
 use Rattle.kat_value.specs.declared.types.Ty.TheVariants as ty
 use Rattle.kat_value.specs.Signatures.{agree}
 use Rattle.kat_ast.specs.declared.assertion.Assertion.{Assertion}
 use Rattle.kat_ast.specs.declared.assertion.Assertion.TheOpen.{Assertion-F, Pure, Register, Cell, Star, If, Exists, Predicate, Region}
 use Rattle.kat_ast.specs.declared.assertion.Assertion.TheFolds.{map-Assertion, fold-Assertion}
-use Rattle.kat_ast.specs.declared.expr.Expr.{Expr}
 use Rattle.kat_ast.specs.Assertions.{assertion_trees}
 use Rattle.kat_ast.specs.Types.{trees_of_type}
-use Rattle.kat_syntax.specs.Tables.{Name}
 use Rattle.kat_syntax.specs.declared.type_rule.TypeRule.TheVariants.{UsedBefore}
 use Rattle.kat_syntax.specs.TypeRules.{Fault, unless}
 use Rattle.kat_syntax.specs.Declares.{TypedName}
 use Rattle.kat_syntax.specs.Around.{Around, ProofSeen, a_register, a_region, a_predicate, meant}
 use Rattle.kat_syntax.specs.Memories.{index_type, cell_type}
 use Rattle.kat_syntax.specs.TypesWritten.{Scope, hiding, type_faults_at, type_here}
-use Rattle.kat_syntax.specs.TypingExpressions.{Standing, Known, wanting, given_faults, unknown, type_of_register, known_of_expr}
+use Rattle.kat_syntax.specs.TypingExpressions.{Standing, wanting, given_faults, unknown, type_of_register, known_of_expr}
 use Rattle.kat_syntax.specs.TypingStatements.{condition_faults, is_usable, without_memory}
 
--- what typing knows of an assertion: how many trees it has, and its faults where it stands at a tree
+-- what typing knows of an assertion: how many trees it has, and its faults where it is at a tree
 pub record Judged : Type 0 where
   pub trees : ℕ
   pub faults : ℕ → List Fault

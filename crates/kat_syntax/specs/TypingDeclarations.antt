@@ -1,7 +1,6 @@
 -- Typing of declarations: the faults of each, among all of them.
-use Rattle.std.specs.Prelude.{ℕ, ◌+◌, ◌^◌, ◌==◌, ◌&&◌, not, nat_le, nat_lt, Bool, true, false, if◌then◌else◌, List, [], ◌∷◌, ◌++◌, length, take, map, Option, None, Some, is_some, option_and_then}
+use Rattle.std.specs.Prelude.{ℕ, ◌+◌, ◌==◌, ◌&&◌, not, nat_le, Bool, true, false, List, [], ◌∷◌, ◌++◌, length, take, Option, None, Some, is_some, option_and_then}
 use Rattle.std.specs.List.{list_any, list_all}
-use Rattle.std.specs.Option.{option_map}
 use Rattle.std.specs.Str.{bytes_eq}
 use Rattle.kat_value.specs.declared.types.Ty.{Ty}
 use Rattle.kat_value.specs.declared.types.Ty.TheVariants as ty
@@ -31,11 +30,11 @@ use Rattle.kat_syntax.specs.Tables.{Name}
 use Rattle.kat_syntax.specs.Limits.{most_declarations, most_protected, most_code, most_fields, greatest_size, most_within}
 use Rattle.kat_syntax.specs.declared.type_rule.TypeRule.TheVariants.{NameTaken, NoWidth, BodyOther, MemoryMissing, MemoryBounds, RangeOutside, CellTaken, OutsideNotBits, NotProof, NotOnce, WithinOutside, TooMany, ContractTwice}
 use Rattle.kat_syntax.specs.TypeRules.{Fault, unless}
-use Rattle.kat_syntax.specs.Declares.{TypedName, Declared, declared_by, declared_in}
+use Rattle.kat_syntax.specs.Declares.{Declared, declared_by, declared_in}
 use Rattle.kat_syntax.specs.Around.{Around, FunctionSeen, a_function, a_block, meant, first_named}
 use Rattle.kat_syntax.specs.Memories.{Range, range_of_cells, range_of_code, memory_before, index_type, is_cell_value, has_bounds, is_within, is_taken, passes, protected_by, code_of_decl}
 use Rattle.kat_syntax.specs.TypesWritten.{Scope, hiding, type_faults_at, type_here, param_faults, with_params, size_here}
-use Rattle.kat_syntax.specs.TypingExpressions.{Standing, Plain, InDispatch, WithKept, InChange, wanting, unknown, known_of_expr}
+use Rattle.kat_syntax.specs.TypingExpressions.{Standing, Plain, InDispatch, WithKept, InChange, unknown, known_of_expr}
 use Rattle.kat_syntax.specs.TypingStatements.{condition_faults, without_memory, known_of_stm}
 use Rattle.kat_syntax.specs.TypingAssertions.{judged_assertion}
 

@@ -66,7 +66,8 @@ op_arg_faults signature k fixed at [] = []
 op_arg_faults signature k fixed at (arg ∷ args) =
     arg.faults at
     ++ (unless (takes signature k fixed arg.type) at TypeOther
-    ++ op_arg_faults signature (k + 1) (fixed_behind signature k fixed arg.type) (at + arg.trees) args)
+    ++ op_arg_faults signature (k + 1) (fixed_behind signature k fixed arg.type) (at + arg.trees)
+    args)
 
 -- the types of arguments
 abbrev pub known_types : List Known → List (Option Ty)

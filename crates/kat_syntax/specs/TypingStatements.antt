@@ -1,5 +1,5 @@
 -- Typing of statements: the type of each, where something fixes it, and its faults.
-use Rattle.std.specs.Prelude.{ℕ, ◌+◌, ◌&&◌, not, Bool, true, false, if◌then◌else◌, List, [], ◌∷◌, ◌++◌, length, map, Option, None, Some, is_some, option_and_then}
+use Rattle.std.specs.Prelude.{ℕ, ◌+◌, ◌&&◌, Bool, true, false, if◌then◌else◌, List, [], ◌∷◌, ◌++◌, map, Option, None, Some, is_some, option_and_then}
 use Rattle.std.specs.List.{list_all}
 use Rattle.std.specs.Option.{option_map}
 use Rattle.std.specs.Str.{bytes_eq}
@@ -20,7 +20,7 @@ use Rattle.kat_syntax.specs.Declares.{TypedName}
 use Rattle.kat_syntax.specs.Around.{Around, CtorSeen, FunctionSeen, ProofSeen, a_member, a_ctor, a_register, a_predicate, a_function, a_lemma, meant, is_before, is_member_of, is_ctor_of, names_that, as_enum, as_union}
 use Rattle.kat_syntax.specs.Memories.{memory_before, index_type, cell_type}
 use Rattle.kat_syntax.specs.TypesWritten.{Scope, hiding}
-use Rattle.kat_syntax.specs.TypingExpressions.{Standing, Plain, Known, wanting, known_types, parts_faults, given_faults, unknown, type_of_register, known_of_expr}
+use Rattle.kat_syntax.specs.TypingExpressions.{Plain, Known, wanting, known_types, parts_faults, given_faults, unknown, type_of_register, known_of_expr}
 
 -- a statement in a scope, as far as typing knows it
 abbrev pub InScope : Type 0
@@ -118,7 +118,7 @@ match_arm_faults around scope at (arm ∷ arms) =
     ++ (hiding around scope (at + 2) arm.payload
     ++ (body.faults (at + 3) ++ match_arm_faults around scope (at + 3 + body.trees) arms))
 
--- the condition of a `case`, a `match` or an `if` at this tree: its faults, and that it is as wanted
+-- the condition of `case`, `match` or `if` at this tree: its faults, and that it is as wanted
 abbrev pub condition_faults : (Option Ty → Bool) → ℕ → Known → List Fault
 condition_faults wanted at test = test.faults at ++ unless (wanted test.type) at TypeOther
 

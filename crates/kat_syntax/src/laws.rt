@@ -1,9 +1,10 @@
 //! What holds of meanings and of specifications without faults of typing. A function here does
 //! nothing: its contract is the law.
 
-ghost use Rattle.std.specs.Prelude.{MatchOption};
+ghost use Rattle.std.specs.Prelude.{◌≡◌, true, MatchOption};
 ghost use Rattle.kat_ast.specs.Spec.{Spec};
 ghost use Rattle.kat_syntax.specs.MeaningByParts.{LetByParts, IfByParts, PartsAreCounted};
+ghost use Rattle.kat_syntax.specs.FirstForm.{are_first_decls};
 ghost use Rattle.kat_syntax.specs.FirstTypeFault.{IsTyped as IsTypedWhole, IsFirstTypeFault, first_type_fault};
 ghost use Rattle.kat_syntax.specs.Runnable.{IsTyped, IsRunnable, HasCleanDecls, HasDistinctRegisters, HasStepFunction};
 
@@ -30,4 +31,11 @@ pub fn typed_specifications_have_tables()
 pub fn first_faults_are_least()
     ensures { (spec : Spec) →
         MatchOption (first_type_fault spec) (IsTypedWhole spec) (IsFirstTypeFault spec) }
+{}
+
+/// A typed specification can be run where its declarations are all of forms that can be run: the
+/// typing of those forms finds no fault where the whole typing finds none.
+pub fn typed_first_forms_can_be_run()
+    ensures { (spec : Spec) →
+        IsTypedWhole spec → are_first_decls spec.decls ≡ true → IsRunnable spec }
 {}

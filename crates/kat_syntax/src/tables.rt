@@ -6,7 +6,7 @@ ghost use Rattle.kat_names.specs.Names.{AllDiffer};
 ghost use Rattle.kat_syntax.specs.Limits.{most_declarations};
 ghost use Rattle.kat_syntax.specs.Tables.{function_from, is_function, step_of, step_function_of};
 ghost use Rattle.kat_syntax.specs.Cycle.{register_names};
-ghost use Rattle.kat_syntax.specs.Checked.{declared_at, IsStep};
+ghost use Rattle.kat_syntax.specs.RunTables.{declared_at, IsStep};
 
 use kat_ast::{Decl, DeclForm};
 use kat_names::{NameError, Table};

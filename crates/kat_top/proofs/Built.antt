@@ -16,6 +16,12 @@ use Rattle.kat_top.specs.Jobs.{done_of, is_reserved}
 use Rattle.kat_top.proofs.Steps.{stops, done}
 use Rattle.kat_top.proofs.Written.{gives_nothing}
 
+pub check_done : (name : Name) → is_reserved name ≡ false → done_of (Some (Check name)) ≡ Some (Check name)
+check_done name fails = rw fails refl
+
+pub check_reserved : (name : Name) → is_reserved name ≡ true → done_of (Some (Check name)) ≡ None
+check_reserved name holds = rw holds refl
+
 pub print_done : (name : Name) → is_reserved name ≡ false → done_of (Some (Print name)) ≡ Some (Print name)
 print_done name fails = rw fails refl
 
@@ -52,7 +58,10 @@ stops_at_once job input rest seen sink =
 
 pub no_memory : (job : Option Job) (seen : FilesSeen) (sink : SinkSeen) → Answered (done_of job) seen seen status.Memory sink sink
 no_memory None seen sink = done _ refl (gives_nothing _ sink)
-no_memory (Some (Check file)) seen sink = done _ refl (gives_nothing _ sink)
+no_memory (Some (Check name)) seen sink =
+    by_test (Answered (done_of (Some (Check name))) seen seen status.Memory sink sink) (is_reserved name)
+    (λ holds. as_usage (done_of (Some (Check name))) seen status.Memory sink sink (check_reserved name holds) (gives_nothing _ sink))
+    (λ fails. subst (λ j. Answered j seen seen status.Memory sink sink) (sym (check_done name fails)) (stops_at_once (Some (Check name)) _ _ seen sink))
 no_memory (Some (Print name)) seen sink =
     by_test (Answered (done_of (Some (Print name))) seen seen status.Memory sink sink) (is_reserved name)
     (λ holds. as_usage (done_of (Some (Print name))) seen status.Memory sink sink (print_reserved name holds) (gives_nothing _ sink))

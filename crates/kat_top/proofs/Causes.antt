@@ -17,7 +17,7 @@ use Rattle.kat_top.specs.Judging.{names_of}
 use Rattle.kat_top.specs.Loading.{read_of, Came, IsNotedFor}
 use Rattle.kat_top.specs.Statuses.{status_of_fault}
 use Rattle.kat_top.proofs.Doing.{HasStatus, does_status, no_file}
-use Rattle.kat_top.proofs.Judged.{refused_status}
+use Rattle.kat_top.proofs.Judged.{IsOfText, refused_status}
 use Rattle.kat_top.proofs.Outside.{rose_before}
 
 status_of_answer : (answer : Answer) (error : InputError) (given : Status) → answer ≡ answer_of_error error → answer.status ≡ given → (answer_of_error error).status ≡ given
@@ -29,7 +29,7 @@ stop_read earlier input why.Memory before after came is = absurd (cc)
 stop_read earlier input (why.Fault said) before after (inl failed) is = failed.rose
 stop_read earlier input (why.Fault said) before after (inr (inl long)) is = let e = ap status_of_fault long.said_is in absurd (cc)
 stop_read earlier input (why.Fault said) before after (inr (inr refused)) is =
-    let e = refused_status earlier input.kind refused.bytes said refused.refuses in absurd (cc)
+    absurd (subst IsOfText is (refused_status earlier input.kind refused.bytes said refused.refuses))
 
 stop_long : (earlier : List Thing) (input : Input) (error : InputError) (before after : FilesSeen) → Came earlier input (Err error) before after →
     (answer_of_error error).status ≡ status.TooLong → Rose before.overlong after.overlong
@@ -37,7 +37,7 @@ stop_long earlier input why.Memory before after came is = absurd (cc)
 stop_long earlier input (why.Fault said) before after (inl failed) is = let e = ap status_of_fault failed.said_is in absurd (cc)
 stop_long earlier input (why.Fault said) before after (inr (inl long)) is = long.rose
 stop_long earlier input (why.Fault said) before after (inr (inr refused)) is =
-    let e = refused_status earlier input.kind refused.bytes said refused.refuses in absurd (cc)
+    absurd (subst IsOfText is (refused_status earlier input.kind refused.bytes said refused.refuses))
 
 read_rose : (job : Option Job) (inputs : List Input) (earlier : List Thing) (before after : FilesSeen) (answer : Answer) → answer.status ≡ status.ReadFault →
     AnswersFrom job earlier inputs before after answer → Rose before.faults after.faults

@@ -9,12 +9,14 @@ use Rattle.kat_top.specs.declared.status.Status.{Status}
 use Rattle.kat_top.specs.declared.status.Status.TheVariants as status
 use Rattle.kat_top.specs.Answers.{Answer}
 use Rattle.kat_top.specs.Inputs.{Thing}
-use Rattle.kat_top.specs.Jobs.{Does, print_answer, answer_of_run, status_of_end}
+use Rattle.kat_top.specs.Jobs.{Does, check_answer, print_answer, answer_of_run, status_of_end}
 
 -- one answer
 pub one_doing : (job : Option Job) (taken : List Thing) (a b : Answer) → Does job taken a → Does job taken b → a ≡ b
 one_doing None taken a b x y = x ∙ sym y
-one_doing (Some (Check file)) taken a b x y = absurd x
+one_doing (Some (Check name)) taken a b (s, f, x) (t, g, y) =
+    let e : s ≡ t = cc in
+    x ∙ ap check_answer e ∙ sym y
 one_doing (Some (Print name)) taken a b (s, f, x) (t, g, y) =
     let e : s ≡ t = cc in
     x ∙ ap print_answer e ∙ sym y
@@ -47,7 +49,7 @@ HasStatus (Some job) given = IsOfJob given
 
 pub does_status : (job : Option Job) (taken : List Thing) (answer : Answer) → Does job taken answer → HasStatus job answer.status
 does_status None taken answer x = ap (λ (a : Answer). a.status) x
-does_status (Some (Check file)) taken answer x = absurd x
+does_status (Some (Check name)) taken answer (s, f, x) = subst IsOfJob (sym (ap (λ (a : Answer). a.status) x)) tt
 does_status (Some (Print name)) taken answer (s, f, x) = subst IsOfJob (sym (ap (λ (a : Answer). a.status) x)) tt
 does_status (Some (Verify file)) taken answer x = absurd x
 does_status (Some (Replay file report)) taken answer x = absurd x
@@ -62,6 +64,7 @@ IsOfFile status.ReadFault = Unit {0}
 IsOfFile status.WriteFault = Unit {0}
 IsOfFile status.TooLong = Unit {0}
 IsOfFile status.Form = Unit {0}
+IsOfFile status.IllTyped = Unit {0}
 IsOfFile status.Memory = Unit {0}
 IsOfFile _ = ⊥
 

@@ -13,4 +13,5 @@ pub mod Rows
 pub mod Steps
 pub mod ToldRuns
 pub mod Trees
+pub mod Typed
 pub mod Written

@@ -6,7 +6,7 @@ use Rattle.kat_top.specs.declared.status.Status.{Status}
 use Rattle.kat_top.specs.declared.status.Status.TheVariants as status
 use Rattle.kat_top.specs.Answers.{Answer, IsWhole}
 use Rattle.kat_top.specs.Jobs.{Does, inputs_of}
-use Rattle.kat_top.specs.Judging.{Told, AreTold, HasLong, HasNothing, AllTaken}
+use Rattle.kat_top.specs.Judging.{Told, AreTold, HasLong, HasUntyped, HasNothing, AllTaken}
 
 -- a status that comes of what failed outside: a read, a write, or memory
 abbrev pub IsFromOutside : Status → Type 0
@@ -36,7 +36,15 @@ LongComes job told given =
     let long = HasLong told (inputs_of job) in
     ComesExactly (Tells job told) status.TooLong given long long
 
--- the bytes of a file that is asked for are read as nothing that the job can treat
+-- the bytes of a file that is asked for stand for a specification that is not typed where it has
+-- to be
+abbrev pub IllTypedComes : Option Job → Told → Status → Type 0
+IllTypedComes job told given =
+    let untyped = HasUntyped told (inputs_of job) in
+    ComesExactly (Tells job told) status.IllTyped given untyped untyped
+
+-- the bytes of a file that is asked for are read as nothing that the job can treat, for another
+-- reason than typing
 abbrev pub FormComes : Option Job → Told → Status → Type 0
 FormComes job told given =
     let nothing = HasNothing told (inputs_of job) in
@@ -67,6 +75,7 @@ pub record StatusesCome (job : Option Job) (told : Told) (given : Status) (old n
   pub usage : UsageComes job given
   pub long : LongComes job told given
   pub form : FormComes job told given
+  pub ill_typed : IllTypedComes job told given
   pub out_of_calls : DoneComes status.Out job told given old new
   pub failed : DoneComes status.Failed job told given old new
   pub ok : DoneComes status.Ok job told given old new

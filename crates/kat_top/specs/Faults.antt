@@ -4,6 +4,8 @@ use Rattle.std.specs.Fmt.{decimal}
 use Rattle.kat_ast.specs.declared.place.Place.{Place}
 use Rattle.kat_shapes.specs.declared.wanted.Wanted.{Wanted}
 use Rattle.kat_shapes.specs.declared.wanted.Wanted.TheVariants as wanted
+use Rattle.kat_syntax.specs.declared.type_rule.TypeRule.{TypeRule}
+use Rattle.kat_syntax.specs.TypeRules.{code_of}
 use Rattle.kat_top.specs.declared.fault.Fault.{Fault}
 use Rattle.kat_top.specs.declared.fault.Fault.TheVariants as fault
 use Rattle.kat_top.specs.declared.fault.TreeKind.{TreeKind}
@@ -52,6 +54,11 @@ tree_words kind offset = codes "tree" ++ part (word_of_kind kind) ++ part (decim
 abbrev pub form_words : ℕ → Wanted → List ℕ
 form_words place wanted = codes "form" ++ part (decimal place) ++ part (word_of_wanted wanted)
 
+-- `type DECL TREE CODE`
+abbrev pub type_words : ℕ → ℕ → TypeRule → List ℕ
+type_words decl tree rule =
+    codes "type" ++ part (decimal decl) ++ part (decimal tree) ++ part (decimal (code_of rule))
+
 -- `out CYCLE`
 abbrev pub out_words : ℕ → List ℕ
 out_words cycle = codes "out" ++ part (decimal cycle)
@@ -69,6 +76,7 @@ words_of_fault (fault.Long name taken) = long_words name taken
 words_of_fault (fault.Tree kind offset) = tree_words kind offset
 words_of_fault (fault.Form place wanted) = form_words place wanted
 words_of_fault fault.Unbuilt = codes "unbuilt"
+words_of_fault (fault.IllTyped decl tree rule) = type_words decl tree rule
 words_of_fault (fault.Out cycle) = out_words cycle
 words_of_fault (fault.Failed cycle site) = failed_words cycle site
 

@@ -1,5 +1,5 @@
 -- The jobs that the program does: what each asks for, and what it does with that.
-use Rattle.std.specs.Prelude.{◌≡◌, ◌==◌, ◌&&◌, ℕ, Bool, true, false, not, if◌then◌else◌, List, [], ◌∷◌, map, replicate, Option, Some, None, String}
+use Rattle.std.specs.Prelude.{◌≡◌, ◌==◌, ◌&&◌, ℕ, Bool, true, false, not, if◌then◌else◌, List, [], ◌∷◌, ◌++◌, codes, length, map, replicate, Option, Some, None, String}
 use Rattle.std.specs.List.{list_any}
 use Rattle.std.specs.String.{string_bytes}
 use Rattle.std.specs.declared.alloc.Global.{Global}
@@ -10,12 +10,14 @@ use Rattle.kat_syntax.specs.Run.{Cycle, Run as MachineRun, RunEnd, Ended, OutIn,
 use Rattle.kat_syntax.specs.StateText.{state_text_of}
 use Rattle.kat_words.specs.Jobs.{job_of}
 use Rattle.kat_words.specs.declared.asked.Job.{Job}
-use Rattle.kat_words.specs.declared.asked.Job.TheVariants.{Print, Run}
+use Rattle.kat_words.specs.declared.asked.Job.TheVariants.{Check, Print, Run}
 use Rattle.kat_top.specs.declared.fault.Fault.TheVariants as fault
+use Rattle.std.specs.Fmt.{decimal}
 use Rattle.kat_top.specs.declared.status.Status.{Status}
 use Rattle.kat_top.specs.declared.status.Status.TheVariants as status
 use Rattle.kat_top.specs.Answers.{Answer, answer_of_fault}
-use Rattle.kat_top.specs.Inputs.{Name, Kind, ASpec, AMachine, AnImage, Input, Thing, TheSpec, TheMachine, TheState}
+use Rattle.kat_top.specs.Faults.{part}
+use Rattle.kat_top.specs.Inputs.{Name, Kind, ASpec, AChecked, AMachine, AnImage, Input, Thing, TheSpec, TheChecked, TheMachine, TheState}
 use Rattle.kat_top.specs.Judging.{names_of}
 
 -- an input of this kind, by the name of its file
@@ -27,6 +29,14 @@ abbrev pub status_of_end : RunEnd → Status
 status_of_end Ended = status.Ok
 status_of_end (OutIn cycle) = status.Out
 status_of_end (FailedIn cycle place) = status.Failed
+
+-- `typed declarations N`, in a line
+abbrev pub typed_text : Spec → List ℕ
+typed_text spec = codes "typed declarations" ++ part (decimal (length spec.decls)) ++ 10 ∷ []
+
+-- that a specification is typed, and how many declarations it has
+abbrev pub check_answer : Spec → Answer
+check_answer spec = record { status = status.Ok; text = typed_text spec }
 
 -- the canonical text of a specification
 abbrev pub print_answer : Spec → Answer
@@ -43,12 +53,14 @@ answer_of_run machine start cycles calls =
 
 -- whether the program does a job already: a line for each job that it does
 abbrev pub is_built : Job → Bool
+is_built (Check spec) = true
 is_built (Print spec) = true
 is_built (Run spec image cycles calls []) = true
 is_built _ = false
 
 -- what a job asks for, in the order in which it is judged; nothing where the words ask for no job
 abbrev pub inputs_of : Option Job → List Input
+inputs_of (Some (Check spec)) = input AChecked spec ∷ []
 inputs_of (Some (Print spec)) = input ASpec spec ∷ []
 inputs_of (Some (Run spec image cycles calls devices)) =
     input AMachine spec ∷ input AnImage image ∷ []
@@ -58,6 +70,8 @@ inputs_of _ = []
 -- ways
 abbrev pub Does : Option Job → List Thing → Answer → Type 0
 Does None taken answer = answer ≡ answer_of_fault fault.Usage
+Does (Some (Check name)) taken answer =
+    (spec : Spec) × (taken ≡ TheChecked spec ∷ []) × (answer ≡ check_answer spec)
 Does (Some (Print name)) taken answer =
     (spec : Spec) × (taken ≡ TheSpec spec ∷ []) × (answer ≡ print_answer spec)
 Does (Some (Run name image cycles calls [])) taken answer =

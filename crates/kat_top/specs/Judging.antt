@@ -1,7 +1,7 @@
 -- How far the inputs of a job are judged, by the bytes that files tell.
 use Rattle.std.specs.Prelude.{◌≡◌, ◌<◌, ◌≤◌, ◌⊎◌, ℕ, List, [], ◌∷◌, ◌++◌, length, map, Option, Some, IsSome}
 use Rattle.kat_top.specs.declared.fault.Fault.{Fault}
-use Rattle.kat_top.specs.Inputs.{Name, Input, Thing, IsReadAs, IsRefusedAs}
+use Rattle.kat_top.specs.Inputs.{Name, Input, Thing, IsReadAs, IsRefusedAs, IsIllTypedAs}
 use Rattle.kat_top.specs.Limits.{most_bytes}
 
 -- what files tell of their bytes
@@ -24,12 +24,21 @@ pub record IsRefused (told : Told) (earlier : List Thing) (input : Input) (fault
   pub few : length bytes ≤ most_bytes
   pub refuses : IsRefusedAs earlier input.kind bytes fault
 
--- they are told, at most as many as are read, and read as nothing
+-- they are told, at most as many as are read, and stand for a specification that is not typed
+-- where it has to be
+pub record IsUntyped (told : Told) (earlier : List Thing) (input : Input) : Type 0 where
+  pub bytes : List ℕ
+  pub is_told : told input.name ≡ Some bytes
+  pub few : length bytes ≤ most_bytes
+  pub untyped : IsIllTypedAs input.kind bytes
+
+-- they are told, at most as many as are read, and read as nothing, for another reason
 pub record IsNothing (told : Told) (earlier : List Thing) (input : Input) : Type 0 where
   pub bytes : List ℕ
   pub is_told : told input.name ≡ Some bytes
   pub few : length bytes ≤ most_bytes
   pub nothing : (thing : Thing) → IsReadAs earlier input.kind bytes thing → ⊥
+  pub not_untyped : IsIllTypedAs input.kind bytes → ⊥
 
 -- they are told, and more than are read
 pub record IsTooLong (told : Told) (input : Input) : Type 0 where
@@ -70,7 +79,11 @@ AreTold told earlier inputs = (name : Name) → IsAsked told earlier inputs name
 abbrev pub HasLong : Told → List Input → Type 0
 HasLong told inputs = Reaches told (AtNext (λ taken input. IsTooLong told input)) [] inputs
 
--- an input that is asked for is read as nothing
+-- an input that is asked for is not typed where it has to be
+abbrev pub HasUntyped : Told → List Input → Type 0
+HasUntyped told inputs = Reaches told (AtNext (λ taken input. IsUntyped told taken input)) [] inputs
+
+-- an input that is asked for is read as nothing, for another reason
 abbrev pub HasNothing : Told → List Input → Type 0
 HasNothing told inputs = Reaches told (AtNext (λ taken input. IsNothing told taken input)) [] inputs
 

@@ -2,10 +2,10 @@
 
 ghost use Rattle.std.specs.Prelude.{◌≡◌, ◌++◌, IfOk, OnOk};
 ghost use Rattle.kat_top.specs.Faults.{fault_text_of, words_of_fault, word_of_kind, word_of_wanted};
-ghost use Rattle.kat_top.specs.Faults.{read_words, long_words, tree_words, form_words, out_words, failed_words};
+ghost use Rattle.kat_top.specs.Faults.{read_words, long_words, tree_words, form_words, type_words, out_words, failed_words};
 
 use kat_forms::Wanted;
-use kat_syntax::Place;
+use kat_syntax::{Place, TypeRule};
 use kat_text::{Text, TextBuilder};
 use std::alloc::{AllocError, Global};
 
@@ -30,20 +30,41 @@ pub enum Fault {
     /// The words ask for no job that the program does.
     Usage,
     /// The file of this name could not be read.
-    Read { name: Text },
+    Read {
+        name: Text,
+    },
     /// The file of this name has more bytes than are read; so many were taken.
-    Long { name: Text, taken: u64 },
+    Long {
+        name: Text,
+        taken: u64,
+    },
     /// A text is no tree. The offset counts bytes.
-    Tree { kind: TreeKind, offset: u64 },
+    Tree {
+        kind: TreeKind,
+        offset: u64,
+    },
     /// A tree is no specification: the first tree, in preorder, that fits no form, and what is
     /// wanted there.
-    Form { place: u64, wanted: Wanted },
+    Form {
+        place: u64,
+        wanted: Wanted,
+    },
     /// A text stands for nothing that can be run yet.
     Unbuilt,
+    /// A specification is not typed: its first fault stands at this tree of this declaration, and
+    /// is that of this condition.
+    IllTyped {
+        decl: u32,
+        tree: u32,
+        rule: TypeRule,
+    },
     /// The cycle of this number made a call with none left.
     Out(u64),
     /// The cycle of this number failed, at this place.
-    Failed { cycle: u64, site: Place },
+    Failed {
+        cycle: u64,
+        site: Place,
+    },
 }
 
 /// The line of a fault.
@@ -67,6 +88,7 @@ fn push_words(line: &mut TextBuilder, fault: &Fault) -> Result<(), AllocError>
         Fault::Tree { kind, offset } => push_tree(line, *kind, *offset),
         Fault::Form { place, wanted } => push_form(line, *place, *wanted),
         Fault::Unbuilt => line.push_text("unbuilt"),
+        Fault::IllTyped { decl, tree, rule } => push_type(line, *decl, *tree, *rule),
         Fault::Out(cycle) => push_out(line, *cycle),
         Fault::Failed { cycle, site } => push_failed(line, *cycle, *site),
     }
@@ -105,6 +127,16 @@ fn push_form(line: &mut TextBuilder, place: u64, wanted: Wanted) -> Result<(), A
     line.push_text("form")?;
     line.push_decimal_part(place)?;
     line.push_part(word_of_wanted(wanted))
+}
+
+/// `type DECL TREE CODE`
+fn push_type(line: &mut TextBuilder, decl: u32, tree: u32, rule: TypeRule) -> Result<(), AllocError>
+    ensures { OnOk result (line.new ≡ line.old ++ type_words decl tree rule) }
+{
+    line.push_text("type")?;
+    line.push_decimal_part(u64::from(decl))?;
+    line.push_decimal_part(u64::from(tree))?;
+    line.push_decimal_part(u64::from(rule.code()))
 }
 
 /// `out CYCLE`

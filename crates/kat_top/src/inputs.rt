@@ -3,7 +3,7 @@
 
 ghost use Rattle.std.specs.Prelude.{◌≡◌, ◌≤◌, ◌+◌, length, List, Some};
 ghost use Rattle.kat_top.specs.declared.fault.Fault.TheVariants as fault;
-ghost use Rattle.kat_top.specs.Inputs.{Thing, ASpec, AMachine, AnImage, TheSpec, TheMachine, TheState, machine_of};
+ghost use Rattle.kat_top.specs.Inputs.{Thing, ASpec, AChecked, AMachine, AnImage, TheSpec, TheChecked, TheMachine, TheState, machine_of};
 ghost use Rattle.kat_top.specs.Limits.{most_bytes};
 ghost use Rattle.kat_top.specs.Jobs.{input};
 ghost use Rattle.kat_top.specs.Loading.{IsFaultOrMemory, ComesOf, Loads, LoadsBytes, error_of_form, error_of_tree, items_of, as_thing};
@@ -13,10 +13,10 @@ use kat_forms::{FormError, read_spec};
 use kat_image::{ImageError, read_image};
 use kat_io::{Files, ReadError};
 use kat_state::State;
-use kat_syntax::{Checked, Spec};
+use kat_syntax::{Checked, Runnable, Spec, are_first_decls};
 use kat_text::Text;
 use kat_tree::{TreeError, places, read_tree, spelled_is_writable, trees_fit_their_text};
-use kat_typing::is_runnable;
+use kat_typing::{TypeError, check};
 use std::alloc::Global;
 
 /// How many bytes of a file are read.
@@ -43,12 +43,28 @@ pub fn load_spec<F: Files>(alloc: Global, files: &mut F, name: &str) -> Result<S
     }
 }
 
+/// The typed specification that a file stands for.
+pub fn load_checked<F: Files>(
+    alloc: Global,
+    files: &mut F,
+    name: &str,
+) -> Result<Checked, InputError>
+    ensures { (earlier : List Thing) →
+        Loads earlier (input AChecked name.now) (as_thing TheChecked result)
+        (F.seen files.old) (F.seen files.new) }
+{
+    match load(alloc, files, name) {
+        Ok(bytes) => checked_of(alloc, bytes.as_slice()),
+        Err(error) => Err(error),
+    }
+}
+
 /// The machine that a file stands for.
 pub fn load_machine<F: Files>(
     alloc: Global,
     files: &mut F,
     name: &str,
-) -> Result<Checked, InputError>
+) -> Result<Runnable, InputError>
     ensures { (earlier : List Thing) →
         Loads earlier (input AMachine name.now) (as_thing TheMachine result)
         (F.seen files.old) (F.seen files.new) }
@@ -64,7 +80,7 @@ pub fn load_image<F: Files>(
     alloc: Global,
     files: &mut F,
     name: &str,
-    machine: &Checked,
+    machine: &Runnable,
 ) -> Result<State, InputError>
     ensures { (earlier : List Thing) → machine_of earlier ≡ Some machine.now →
         Loads earlier (input AnImage name.now) (as_thing TheState result)
@@ -128,27 +144,46 @@ fn spec_of(alloc: Global, text: &[u8]) -> Result<Spec, InputError>
     }
 }
 
-/// What a text is read as that is to be a machine.
-fn machine_of(alloc: Global, text: &[u8]) -> Result<Checked, InputError>
+/// What a text is read as that is to be a typed specification.
+fn checked_of(alloc: Global, text: &[u8]) -> Result<Checked, InputError>
     requires { length text.now ≤ most_bytes }
     ensures { (earlier : List Thing) →
-        ComesOf earlier AMachine text.now (as_thing TheMachine result) }
+        ComesOf earlier AChecked text.now (as_thing TheChecked result) }
 {
     match spec_of(alloc, text) {
-        Ok(spec) => match is_runnable(alloc, &spec) {
-            Ok(true) => match Checked::new(alloc, spec) {
-                Ok(machine) => Ok(machine),
-                Err(_) => Err(InputError::Memory),
-            },
-            Ok(false) => Err(InputError::Fault(Fault::Unbuilt)),
-            Err(_) => Err(InputError::Memory),
+        Ok(spec) => match check(alloc, spec) {
+            Ok(checked) => Ok(checked),
+            Err(TypeError::Code { decl, tree, rule }) => {
+                Err(InputError::Fault(Fault::IllTyped { decl, tree, rule }))
+            }
+            Err(TypeError::Memory) => Err(InputError::Memory),
         },
         Err(error) => Err(error),
     }
 }
 
+/// What a text is read as that is to be a machine.
+fn machine_of(alloc: Global, text: &[u8]) -> Result<Runnable, InputError>
+    requires { length text.now ≤ most_bytes }
+    ensures { (earlier : List Thing) →
+        ComesOf earlier AMachine text.now (as_thing TheMachine result) }
+{
+    match checked_of(alloc, text) {
+        Ok(checked) => {
+            if !are_first_decls(checked.spec().decls()) {
+                return Err(InputError::Fault(Fault::Unbuilt));
+            }
+            match Runnable::new(alloc, checked) {
+                Ok(machine) => Ok(machine),
+                Err(_) => Err(InputError::Memory),
+            }
+        }
+        Err(error) => Err(error),
+    }
+}
+
 /// What a text is read as that is to be an image of a machine.
-fn start_of(alloc: Global, text: &[u8], machine: &Checked) -> Result<State, InputError>
+fn start_of(alloc: Global, text: &[u8], machine: &Runnable) -> Result<State, InputError>
     ensures { (earlier : List Thing) → machine_of earlier ≡ Some machine.now →
         ComesOf earlier AnImage text.now (as_thing TheState result) }
 {

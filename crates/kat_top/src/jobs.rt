@@ -7,15 +7,31 @@ ghost use Rattle.kat_top.specs.Given.{Answered};
 ghost use Rattle.kat_top.specs.Jobs.{answer_of_run};
 
 use crate::fault::Fault;
-use crate::inputs::{load_image, load_machine, load_spec};
-use crate::say::{refuse, say_canonical, say_fault};
+use crate::inputs::{load_checked, load_image, load_machine, load_spec};
+use crate::say::{refuse, say_canonical, say_fault, say_typed};
 use crate::status::Status;
 use kat_io::{Files, Sink};
 use kat_runner::{RunEnd, run};
 use kat_state::State;
-use kat_syntax::Checked;
+use kat_syntax::Runnable;
 use kat_text::Text;
 use std::alloc::Global;
+
+/// `check SPEC`: that a specification is typed.
+pub fn check_file<F: Files, K: Sink>(
+    alloc: Global,
+    spec: &Text,
+    files: &mut F,
+    out: &mut K,
+) -> Status
+    ensures { Answered (Some (job.Check spec.now)) (F.seen files.old) (F.seen files.new)
+        result (K.seen out.old) (K.seen out.new) }
+{
+    match load_checked(alloc, files, spec.as_str()) {
+        Ok(found) => say_typed(alloc, out, found.spec()),
+        Err(error) => refuse(alloc, out, error),
+    }
+}
 
 /// `print SPEC`: the canonical text of a specification.
 pub fn print_file<F: Files, K: Sink>(
@@ -59,7 +75,7 @@ pub fn run_files<F: Files, K: Sink>(
 /// Runs a machine from a state.
 fn run_from<K: Sink>(
     alloc: Global,
-    machine: &Checked,
+    machine: &Runnable,
     start: State,
     cycles: u64,
     calls: u64,

@@ -11,7 +11,7 @@ ghost use Rattle.kat_top.specs.Told.{TextTellsToldRun, BeginningTellsToldRun};
 use kat_forms::one_description;
 use kat_image::one_state;
 use kat_laws::{images_are_states, text_tells_its_run};
-use kat_syntax::one_reading;
+use kat_syntax::{first_faults_are_least, one_reading, typed_first_forms_can_be_run};
 use kat_tree::one_outcome;
 
 /// What the lower crates say of the bytes of a file.
@@ -20,6 +20,7 @@ pub(crate) fn file_laws()
 {
     one_outcome();
     one_reading();
+    first_faults_are_least();
     one_description();
     one_state();
 }
@@ -41,6 +42,7 @@ pub fn text_tells_told_run()
     ensures whole { TextTellsToldRun }
     ensures beginning { BeginningTellsToldRun }
 {
+    typed_first_forms_can_be_run();
     text_tells_its_run();
     images_are_states();
 }

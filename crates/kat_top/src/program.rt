@@ -9,7 +9,7 @@ ghost use Rattle.kat_top.specs.Given.{Answered, HasCauses, Keeps, ReadsMade};
 ghost use Rattle.kat_top.specs.Jobs.{asked, done_of, is_reserved};
 
 use crate::fault::Fault;
-use crate::jobs::{print_file, run_files};
+use crate::jobs::{check_file, print_file, run_files};
 use crate::laws::file_laws;
 use crate::say::say_fault;
 use crate::status::Status;
@@ -75,6 +75,7 @@ fn do_job<F: Files, K: Sink>(alloc: Global, job: &Job, files: &mut F, out: &mut 
         result (K.seen out.old) (K.seen out.new) }
 {
     match job {
+        Job::Check { spec } => do_check(alloc, spec, files, out),
         Job::Print { spec } => do_print(alloc, spec, files, out),
         Job::Run {
             spec,
@@ -83,11 +84,21 @@ fn do_job<F: Files, K: Sink>(alloc: Global, job: &Job, files: &mut F, out: &mut 
             calls,
             devices,
         } => do_run(alloc, spec, image, *cycles, *calls, devices, files, out),
-        Job::Check { .. } => say_fault(alloc, out, &Fault::Usage),
         Job::Verify { .. } => say_fault(alloc, out, &Fault::Usage),
         Job::Replay { .. } => say_fault(alloc, out, &Fault::Usage),
         Job::Gen { .. } => say_fault(alloc, out, &Fault::Usage),
     }
+}
+
+/// `check SPEC`
+fn do_check<F: Files, K: Sink>(alloc: Global, spec: &Text, files: &mut F, out: &mut K) -> Status
+    ensures { Answered (done_of (Some (job.Check spec.now))) (F.seen files.old) (F.seen files.new)
+        result (K.seen out.old) (K.seen out.new) }
+{
+    if is_reserved(spec) {
+        return say_fault(alloc, out, &Fault::Usage);
+    }
+    check_file(alloc, spec, files, out)
 }
 
 /// `print SPEC`

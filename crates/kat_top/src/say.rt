@@ -1,8 +1,8 @@
 //! What is written: a text with its status.
 
-ghost use Rattle.std.specs.Prelude.{◌≡◌};
+ghost use Rattle.std.specs.Prelude.{◌≡◌, ◌++◌, IfOk};
 ghost use Rattle.kat_top.specs.Answers.{Gives, IsPlain, answer_of_error, answer_of_fault};
-ghost use Rattle.kat_top.specs.Jobs.{print_answer};
+ghost use Rattle.kat_top.specs.Jobs.{check_answer, print_answer, typed_text};
 
 use crate::fault::{Fault, fault_text};
 use crate::inputs::InputError;
@@ -10,7 +10,8 @@ use crate::status::Status;
 use kat_io::{Sink, SinkError};
 use kat_print::print_spec;
 use kat_syntax::Spec;
-use std::alloc::Global;
+use kat_text::{Text, TextBuilder};
+use std::alloc::{AllocError, Global};
 
 /// Says why an input was not taken, with the status of that.
 pub fn refuse<K: Sink>(alloc: Global, out: &mut K, error: InputError) -> Status
@@ -30,6 +31,27 @@ pub fn say_fault<K: Sink>(alloc: Global, out: &mut K, fault: &Fault) -> Status
         Ok(line) => say(out, line.as_bytes(), Status::of_fault(fault)),
         Err(_) => Status::Memory,
     }
+}
+
+/// Writes that a specification is typed.
+pub fn say_typed<K: Sink>(alloc: Global, out: &mut K, spec: &Spec) -> Status
+    ensures { Gives (check_answer spec.now) result (K.seen out.old) (K.seen out.new) }
+{
+    match typed_text(alloc, spec) {
+        Ok(line) => say(out, line.as_bytes(), Status::Ok),
+        Err(_) => Status::Memory,
+    }
+}
+
+/// `typed declarations N`, in a line.
+fn typed_text(alloc: Global, spec: &Spec) -> Result<Text, AllocError>
+    ensures { IfOk result (λ text. text ≡ typed_text spec.now) }
+{
+    let mut line = TextBuilder::new(alloc);
+    line.push_text("typed declarations")?;
+    line.push_decimal_part(spec.decls().len() as u64)?;
+    line.push_newline()?;
+    Ok(line.into_text())
 }
 
 /// Writes the canonical text of a specification.

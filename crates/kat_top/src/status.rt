@@ -56,6 +56,7 @@ impl Status {
             Fault::Read { .. } => Status::ReadFault,
             Fault::Long { .. } => Status::TooLong,
             Fault::Tree { .. } | Fault::Form { .. } | Fault::Unbuilt => Status::Form,
+            Fault::IllTyped { .. } => Status::IllTyped,
             Fault::Out(_) => Status::Out,
             Fault::Failed { .. } => Status::Failed,
         }

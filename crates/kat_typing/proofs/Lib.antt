@@ -1,4 +1,8 @@
-pub mod Clean
-pub mod Declares
-pub mod Examples
-pub mod Statements
+pub mod Cases
+pub mod Counting
+pub mod Fields
+pub mod FirstFault
+pub mod Judging
+pub mod Noting
+pub mod StatementTrees
+pub mod Steps

@@ -1,4 +1,4 @@
-pub mod Clean
-pub mod Declares
-pub mod Scopes
-pub mod Runnable
+pub mod Errors
+pub mod Faults
+pub mod Kinds
+pub mod Totals

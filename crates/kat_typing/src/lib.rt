@@ -1,14 +1,17 @@
-//! Whether a specification can be run: each declaration is of a form that the interpreter has, and
-//! no tree has a fault of typing. The answer is exact both ways. A fault of any kind is answered
-//! alike: the first one ends the search.
+//! The typing check: a specification is typed, or has a first fault, found by one walk over its
+//! declarations with hash tables of all that is declared.
 #![tactic(auto)]
 
-mod declared;
-mod expr;
-mod forms;
-mod runnable;
-mod scope;
-mod stm;
-mod types;
+mod cells;
+mod checking;
+mod contract;
+mod decl;
+mod first;
+mod lemma;
+mod limits;
+mod names;
+mod once;
+mod phases;
 
-pub use runnable::is_runnable;
+pub use checking::{TypeError, check};
+pub use first::{TypeFault, first_type_fault};

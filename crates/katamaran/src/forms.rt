@@ -1,7 +1,7 @@
 //! Each form of the language once as it is to be; and with a part too few or too many, another
 //! first word, a word of a value or a number in place of a name, and a name in place of a number.
-//! Behind each stands the first misfit that `print` names, or nothing where the form is right and is
-//! printed.
+//! Behind each stands the first misfit that `print` names, or nothing where the form is right and
+//! is printed.
 
 use crate::tests::print_agrees;
 use kat_top::Status;

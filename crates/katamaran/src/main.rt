@@ -7,6 +7,8 @@ mod forms;
 mod terms;
 #[cfg(test)]
 mod tests;
+#[cfg(test)]
+mod typing;
 
 use kat_io::{HostFiles, HostSink};
 use kat_top::{Status, top};

@@ -7,20 +7,33 @@ use sqlite_items::Items;
 use std::alloc::{AllocError, Global};
 use std::test::Fail;
 
-/// A machine that adds one to its register while that is below three, and then fails.
-const TO_THREE: &str =
-    "(spec 1 (register n (bits 8) plain) (fun f () unit (let a (read n) (if (ult a (bits 8 3)) (write n (add a (bits 8 1))) (fail)))) (step f))";
+/// A machine that adds one to its register while that is below three, and then fails. Behind its
+/// step stands what each typed specification has and no run needs.
+const TO_THREE: &str = "(spec 1 (register n (bits 8) plain) \
+    (fun f () unit (let a (read n) \
+    (if (ult a (bits 8 3)) (write n (add a (bits 8 1))) (fail)))) (step f) \
+    (dispatch (else (block b))) (untrusted (star)) \
+    (block b (entry (star)) (within 1) (change true)) (boot b))";
 
 /// The same with a call in place of its `fail`.
-const WITH_CALL: &str =
-    "(spec 1 (register n (bits 8) plain) (fun f () unit (let a (read n) (if (ult a (bits 8 3)) (write n (add a (bits 8 1))) (call f)))) (step f))";
+const WITH_CALL: &str = "(spec 1 (register n (bits 8) plain) \
+    (fun f () unit (let a (read n) \
+    (if (ult a (bits 8 3)) (write n (add a (bits 8 1))) (call f)))) (step f) \
+    (dispatch (else (block b))) (untrusted (star)) \
+    (block b (entry (star)) (within 1) (change true)) (boot b))";
+
+/// A machine with a memory.
+const WITH_MEMORY: &str = "(spec 1 (memory 8 8 0 16) (fun f () unit (fail)) (step f) \
+    (dispatch (else (block b))) (untrusted (star)) \
+    (block b (entry (star)) (within 1) (change true)) (boot b))";
 
 /// One bracket more is open than may be.
 const SIXTY_FIVE_OPEN: &str = "(((((((((((((((((((((((((((((((((((((((((((((((((((((((((((((((((";
 
 /// As many brackets are open as may be.
-const SIXTY_FOUR_NESTED: &str =
-    "(((((((((((((((((((((((((((((((((((((((((((((((((((((((((((((((())))))))))))))))))))))))))))))))))))))))))))))))))))))))))))))))";
+const SIXTY_FOUR_NESTED: &str = "\
+    ((((((((((((((((((((((((((((((((((((((((((((((((((((((((((((((((\
+    ))))))))))))))))))))))))))))))))))))))))))))))))))))))))))))))))";
 
 /// The two files of a run.
 fn two_files(alloc: Global, spec: &[u8], image: &str) -> Result<Vec<Named>, AllocError> {
@@ -153,7 +166,9 @@ const RUNS: &[(&str, Status, &str)] = &[
         Status::Usage,
         "usage\n",
     ),
-    ("check s", Status::Usage, "usage\n"),
+    ("check s", Status::Ok, "typed declarations 7\n"),
+    ("check @s", Status::Usage, "usage\n"),
+    ("check none", Status::ReadFault, "read none\n"),
     ("print @s", Status::Usage, "usage\n"),
     ("", Status::Usage, "usage\n"),
     (
@@ -176,15 +191,7 @@ fn runs_write_their_states(rt: HostRuntime) -> Result<(), Fail> {
 fn texts_and_images_that_are_not_built(rt: HostRuntime) -> Result<(), Fail> {
     let rows = [
         (WITH_CALL, "reg n 0x01"),
-        ("(spec 1 (fun f () unit (fail)))", ""),
-        (
-            "(spec 1 (register n (bits 65) plain) (fun f () unit (fail)) (step f))",
-            "",
-        ),
-        (
-            "(spec 1 (memory 8 8 0 16) (fun f () unit (fail)) (step f))",
-            "",
-        ),
+        (WITH_MEMORY, ""),
         (TO_THREE, "reg  n 0x01"),
         (TO_THREE, "reg n 256"),
         (TO_THREE, "reg n 1\nreg n 1"),
@@ -204,8 +211,19 @@ pub(crate) fn print_agrees(
     status: Status,
     text: &str,
 ) -> Result<bool, AllocError> {
+    job_agrees(alloc, "print s", spec, status, text)
+}
+
+/// Whether these words are answered so for a text.
+pub(crate) fn job_agrees(
+    alloc: Global,
+    words: &str,
+    spec: &str,
+    status: Status,
+    text: &str,
+) -> Result<bool, AllocError> {
     let row = Row {
-        words: "print s",
+        words,
         spec: spec.as_bytes(),
         image: "",
         failing_read: 0,

@@ -1,0 +1,6 @@
+pub mod Bases
+pub mod Judging
+pub mod Laws
+pub mod Operands
+pub mod Scopes
+pub mod Uses

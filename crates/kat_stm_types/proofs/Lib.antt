@@ -1,0 +1,9 @@
+pub mod ArmsSeen
+pub mod Assertions
+pub mod Bodies
+pub mod BranchTypes
+pub mod Counts
+pub mod Names
+pub mod Noting
+pub mod Statements
+pub mod UsedParts

@@ -1,0 +1,20 @@
+-- A cell that points to a value is known by its layer.
+use Rattle.kat_ast.specs.declared.assertion.Assertion.TheVariants as assertion
+use Rattle.kat_ast.specs.declared.assertion.Assertion.TheOpen.{Cell}
+use Rattle.kat_ast.specs.declared.assertion.Assertion.TheViews.{outs-Cell}
+use Rattle.kat_expr_types.specs.Judging.{standing_of}
+use Rattle.kat_expr_types.specs.Scopes.{scope_of}
+use Rattle.kat_stm_types.proofs.Assertions.{counts_at}
+use Rattle.kat_stm_types.proofs.assertion.judge_cell.Goals as goal
+
+pub returns : goal.returns
+returns c =
+    let s = c.args.setting.now in
+    let i = c.args.index.now in
+    let e = c.args.value.now in
+    counts_at s.around.now (standing_of s.standing) (scope_of s.scope.now)
+    (assertion.Cell i e) (Cell i e) c.args.at _ _ _ (outs-Cell i e)
+    (record {
+      counted = c.judge_cell_parts.ensures.trees;
+      noted = c.judge_cell_parts.ensures.faults;
+    })

@@ -1,0 +1,9 @@
+pub mod Adding
+pub mod DeclaredForms
+pub mod Declaring
+pub mod Lookups
+pub mod Noting
+pub mod Ranges
+pub mod Reaches
+pub mod TypedForms
+pub mod TypedNames

@@ -1,0 +1,4 @@
+pub mod Forms
+pub mod Meanings
+pub mod Protected
+pub mod Tables
