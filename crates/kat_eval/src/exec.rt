@@ -1,11 +1,11 @@
 //! What statements do. The interpreter runs the tree as it stands; where a failure stands is worked
 //! out only when one comes, on the way back, so that a cycle that completes pays nothing for it.
 
-ghost use Rattle.std.specs.Prelude.{◌≡◌, ◌<◌, ◌^◌, IfOk};
+ghost use Rattle.std.specs.Prelude.{◌≡◌, ◌<◌, IfOk};
 ghost use Rattle.kat_ast.specs.declared.stm.Stm.TheVariants.{Let, If};
 ghost use Rattle.kat_ast.specs.Statements.{trees_of_stm};
 ghost use Rattle.kat_ast.specs.Limits.{decl_trees_bound};
-ghost use Rattle.kat_syntax.specs.Meaning.{meaning, is_true, read_of, write_to, Calls};
+ghost use Rattle.kat_syntax.specs.Meaning.{meaning, is_true, Calls};
 ghost use Rattle.kat_syntax.specs.Cycle.{register_names};
 ghost use Rattle.kat_eval.specs.Locals.{locals_of};
 ghost use Rattle.kat_eval.specs.Running.{progress_of, as_outcome, IsBelow};

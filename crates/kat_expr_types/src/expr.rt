@@ -1,6 +1,6 @@
 //! Typing of expressions.
 
-ghost use Rattle.std.specs.Prelude.{◌≡◌, ◌+◌, ◌<◌, ◌^◌, ◌∷◌, [], length, map, Some, option_and_then};
+ghost use Rattle.std.specs.Prelude.{◌≡◌, ◌+◌, ◌<◌, ◌^◌, Some};
 ghost use Rattle.std.specs.Option.{option_map};
 ghost use Rattle.kat_value.specs.declared.types.Ty.TheVariants as ty;
 ghost use Rattle.kat_ast.specs.declared.expr.Expr.TheVariants as expr;

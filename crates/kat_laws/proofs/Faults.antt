@@ -2,11 +2,11 @@
 use Rattle.std.proofs.Common.{◌≡◌, ℕ, Bool, true, false, List, [], ◌∷◌, ◌++◌, refl}
 use Rattle.kat_ast.specs.Spec.{Spec}
 use Rattle.kat_syntax.specs.Typing.{Fault, unless, inside, in_decl}
-use Rattle.kat_syntax.specs.Runnable.{IsTyped, HasCleanDecls}
+use Rattle.kat_syntax.specs.Runnable.{IsTypedAsFirstForm, HasCleanDecls}
 
 -- no declaration of a typed specification has a fault inside, as kat_syntax has it
 abbrev pub DeclsAreClean : Type 0
-DeclsAreClean = (spec : Spec) → IsTyped spec → HasCleanDecls spec
+DeclsAreClean = (spec : Spec) → IsTypedAsFirstForm spec → HasCleanDecls spec
 
 -- where two lists together are empty, each is
 pub empty_first : {A : Type 0} (xs ys : List A) → xs ++ ys ≡ [] → xs ≡ []

@@ -25,7 +25,7 @@ use Rattle.kat_ast.specs.Parts.{word}
 use Rattle.kat_ast.specs.Types.{tree_of_type}
 use Rattle.kat_ast.specs.Declarations.{word_of_register_kind, tree_of_decl, IsDecl}
 use Rattle.kat_syntax.specs.Cycle.{register_names}
-use Rattle.kat_syntax.specs.Runnable.{IsTyped, HasDistinctRegisters}
+use Rattle.kat_syntax.specs.Runnable.{IsTypedAsFirstForm, HasDistinctRegisters}
 use Rattle.kat_laws.specs.TextLaw.{IsWord}
 use Rattle.kat_laws.specs.Soundness.{RegistersAreNamed}
 
@@ -75,6 +75,6 @@ words_of tokens (Register x type kind ∷ decls) are =
     All-cons IsWord x (register_names decls) (name_is_word x (register_token tokens x type kind are.0)) (words_of tokens decls are.1)
 words_of tokens (_ ∷ decls) are = words_of tokens decls are.1
 
-pub registers_named : TokensByParts → ((spec : Spec) → IsTyped spec → HasDistinctRegisters spec) → RegistersAreNamed
+pub registers_named : TokensByParts → ((spec : Spec) → IsTypedAsFirstForm spec → HasDistinctRegisters spec) → RegistersAreNamed
 registers_named tokens distinct spec can =
     record { words = words_of tokens spec.decls can.written; distinct = (distinct spec can.runnable.typed).differ }

@@ -282,14 +282,3 @@ read_told around scope r at result old new seen is_known type seen_is known_is n
       faults = unknown_noted (at + 2) (meant a_register around r) seen is_known old new seen_is
           known_is noted;
     })
-
-pub fail_told : (around : Around) (scope : Scope) (at : ℕ) (result : KnownHere)
-    (old : Option Fault) →
-    result ≡ record { trees = 2; ty = None } →
-    Tells (known_of_stm around stm.Fail scope) at result old old
-fail_told around scope at result old is =
-    tells_at around scope stm.Fail Fail at result old old outs-Fail (record {
-      trees = (made 2 None result is).0;
-      type = (made 2 None result is).1;
-      faults = refl;
-    })

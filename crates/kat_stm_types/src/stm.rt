@@ -1,6 +1,6 @@
 //! Typing of statements.
 
-ghost use Rattle.std.specs.Prelude.{◌≡◌, ◌+◌, ◌<◌, ◌^◌};
+ghost use Rattle.std.specs.Prelude.{◌+◌, ◌<◌, ◌^◌};
 ghost use Rattle.kat_ast.specs.declared.stm.Stm.TheVariants as stm;
 ghost use Rattle.kat_ast.specs.Expressions.{trees_of_expr, trees_of_exprs};
 ghost use Rattle.kat_ast.specs.Statements.{trees_of_stm, trees_of_stms};

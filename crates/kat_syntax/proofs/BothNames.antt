@@ -146,11 +146,6 @@ register_from all k p (decl ∷ decls) r first =
     register_from all (k + 1) next decls r split.1
     ∙ sym (ap type_seen (passed_over a_register (declared_in all k p decl) (declared_from all (k + 1) next decls) r (no_register all k p decl split.0 refl)))
 
-found_or_behind : (b : Bool) (seen : FunctionSeen) (rest : Option FunctionSeen) (here : Bool) → here ≡ is_some rest →
-    (if b then true else here) ≡ is_some (if b then option_or (Some seen) rest else rest)
-found_or_behind true seen rest here e = refl
-found_or_behind false seen rest here e = e
-
 function_alike : (all : List DeclForm) (k p : ℕ) (decls : List DeclForm) (f : Name) → are_first_decls decls ≡ true →
     is_some (function_from k decls f) ≡ is_some (look_up a_function (declared_from all k p decls) f)
 function_alike all k p [] f first = refl

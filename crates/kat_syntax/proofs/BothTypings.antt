@@ -21,14 +21,14 @@ use Rattle.kat_ast.specs.Spec.{Spec}
 use Rattle.kat_syntax.specs.Limits.{most_declarations}
 use Rattle.kat_syntax.specs.Tables.{Name, function_from}
 use Rattle.kat_syntax.specs.FirstForm.{is_first_stm, is_first_decl, are_first_decls}
-use Rattle.kat_syntax.specs.Runnable.{IsTyped, IsRunnable}
+use Rattle.kat_syntax.specs.Runnable.{IsTypedAsFirstForm, IsRunnable}
 use Rattle.kat_syntax.specs.declared.type_rule.TypeRule.TheVariants.{NameTaken, NoWidth, NameUnknown, BodyOther, NotOnce, TooMany}
 use Rattle.kat_syntax.specs.TypeRules.{Fault, unless}
 use Rattle.kat_syntax.specs.Declares.{Declared, declared_by}
 use Rattle.kat_syntax.specs.Around.{Around, a_function, meant, first_named}
 use Rattle.kat_syntax.specs.TypingStatements.{known_of_stm}
 use Rattle.kat_syntax.specs.TypingDeclarations.{stands_at, taken_names, own_names, is_in_limits, is_second, is_step, inner_faults, decl_faults}
-use Rattle.kat_syntax.specs.FirstTypeFault.{IsTyped as IsTypedWhole, faults_from}
+use Rattle.kat_syntax.specs.FirstTypeFault.{IsTyped, faults_from}
 use Rattle.kat_syntax.specs.Typing as of_first
 use Rattle.kat_syntax.proofs.NoFaults.{empty_first, empty_second, both_empty, met, no_fault, alike, inside_alike, in_decl_alike}
 use Rattle.kat_syntax.proofs.BothExpressions.{AreAlike}
@@ -237,7 +237,7 @@ inner_from all k (decl ∷ decls) firsts first typed =
     (decl_clean all k decl firsts split.0 (clean_parts (record { decls = all; number = k }) decl typed.0).inner))
     (inner_from all (k + 1) decls firsts split.1 typed.1)
 
-no_first_faults : (spec : Spec) → IsTypedWhole spec → are_first_decls spec.decls ≡ true → IsTyped spec
+no_first_faults : (spec : Spec) → IsTyped spec → are_first_decls spec.decls ≡ true → IsTypedAsFirstForm spec
 no_first_faults spec typed firsts =
     let decls = spec.decls in
     both_empty (of_first.count_faults decls) _ (count_clean decls typed)
@@ -248,5 +248,5 @@ no_first_faults spec typed firsts =
     (inner_from decls 0 decls firsts firsts typed)))
 
 -- a typed specification of forms that can be run, can be run
-pub typed_can_run : (spec : Spec) → IsTypedWhole spec → are_first_decls spec.decls ≡ true → IsRunnable spec
+pub typed_can_run : (spec : Spec) → IsTyped spec → are_first_decls spec.decls ≡ true → IsRunnable spec
 typed_can_run spec typed firsts = record { forms = firsts; typed = no_first_faults spec typed firsts }

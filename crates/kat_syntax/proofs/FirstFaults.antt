@@ -46,9 +46,6 @@ keep_known known fault found faults e h = record {
   least = (kept_numbers fault.tree (code_of fault.rule) known.tree (code_of known.rule) found.tree (code_of found.rule) e h.before, h.least);
 }
 
-IsLeastFound : Fault → List Fault → Option Fault → Type 0
-IsLeastFound known faults found = IfSome found (IsLeastWith known faults)
-
 take_found : (known fault : Fault) (faults : List Fault) (found : Option Fault) → comes_before fault known ≡ true →
     IfSome found (IsLeastWith fault faults) → IfSome found (IsLeastWith known (fault ∷ faults))
 take_found known fault faults None e h = h

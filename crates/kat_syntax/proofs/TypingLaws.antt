@@ -17,7 +17,7 @@ use Rattle.kat_syntax.specs.Tables.{Name, function_at, function_from, step_of, s
 use Rattle.kat_syntax.specs.Cycle.{register_names}
 use Rattle.kat_syntax.specs.FirstForm.{is_first_decl, are_first_decls}
 use Rattle.kat_syntax.specs.Typing.{is_among, in_decl, unless, names_from, taken_faults, decl_faults, inner_faults, step_faults, count_faults}
-use Rattle.kat_syntax.specs.Runnable.{IsTyped, IsRunnable, HasCleanDecls, HasDistinctRegisters, HasStepFunction}
+use Rattle.kat_syntax.specs.Runnable.{IsTypedAsFirstForm, IsRunnable, HasCleanDecls, HasDistinctRegisters, HasStepFunction}
 use Rattle.kat_syntax.proofs.NoFaults.{empty_first, empty_second}
 
 -- where a condition has no fault it holds
@@ -76,7 +76,7 @@ differ_from k all some (_ ∷ decls) within differ e = differ_from (k + 1) all s
 none_differ : AllDiffer []
 none_differ i j d below within = absurd (omega arith)
 
-module _ (spec : Spec) (typed : IsTyped spec) where
+module _ (spec : Spec) (typed : IsTypedAsFirstForm spec) where
   behind_count : step_faults false 0 spec.decls ++ (taken_faults [] (names_from 0 spec.decls) ++ inner_faults spec.decls 0 spec.decls) ≡ []
   behind_count = empty_second (count_faults spec.decls) _ typed
 
@@ -100,7 +100,7 @@ le_of : (m n : ℕ) → nat_le m n ≡ true → m ≤ n
 le_of m n e = grind (arith, nat_tests)
 
 -- a typed specification has no more declarations than it may
-pub few_declarations : (spec : Spec) → IsTyped spec → length spec.decls ≤ most_declarations
+pub few_declarations : (spec : Spec) → IsTypedAsFirstForm spec → length spec.decls ≤ most_declarations
 few_declarations spec typed =
     le_of (length spec.decls) most_declarations
     (held most_declarations 0 23 (nat_le (length spec.decls) most_declarations) (empty_first _ _ typed))
@@ -121,10 +121,10 @@ found_step decls None there named = absurd (cc)
 found_step decls (Some f) there named = named
 
 -- a typed specification has a step declaration, and the function that it names
-pub step_is_declared : (spec : Spec) → IsTyped spec → IsSome (step_of spec.decls)
+pub step_is_declared : (spec : Spec) → IsTypedAsFirstForm spec → IsSome (step_of spec.decls)
 step_is_declared spec typed = step_from 0 spec.decls (no_step_faults spec typed)
 
-pub step_function_is_declared : (spec : Spec) → IsTyped spec → IsSome (step_function_of spec.decls)
+pub step_function_is_declared : (spec : Spec) → IsTypedAsFirstForm spec → IsSome (step_function_of spec.decls)
 step_function_is_declared spec typed =
     found_step spec.decls (step_of spec.decls) (step_is_declared spec typed) (named_from spec.decls 0 spec.decls (no_inner_faults spec typed))
 
@@ -144,10 +144,10 @@ first_takes_nothing k (decl ∷ decls) f e =
 functions_take_nothing : (spec : Spec) → IsRunnable spec → (f : Name) → IfSome (function_from 0 spec.decls f) (λ function. function.params ≡ [])
 functions_take_nothing spec first f = first_takes_nothing 0 spec.decls f first.forms
 
-pub decls_are_clean : (spec : Spec) → IsTyped spec → HasCleanDecls spec
+pub decls_are_clean : (spec : Spec) → IsTypedAsFirstForm spec → HasCleanDecls spec
 decls_are_clean spec typed = record { clean = no_inner_faults spec typed }
 
-pub registers_are_distinct : (spec : Spec) → IsTyped spec → HasDistinctRegisters spec
+pub registers_are_distinct : (spec : Spec) → IsTypedAsFirstForm spec → HasDistinctRegisters spec
 registers_are_distinct spec typed = record { differ = registers_differ spec typed }
 
 pub step_function_is_there : (spec : Spec) → IsRunnable spec → HasStepFunction spec

@@ -9,13 +9,13 @@ use Rattle.kat_syntax.specs.FirstForm.{are_first_decls}
 use Rattle.kat_syntax.specs.Typing.{inner_faults, type_faults}
 
 -- no tree has a fault of typing
-abbrev pub IsTyped : Spec → Type 0
-IsTyped spec = type_faults spec ≡ []
+abbrev pub IsTypedAsFirstForm : Spec → Type 0
+IsTypedAsFirstForm spec = type_faults spec ≡ []
 
 -- each declaration is of a form that can be run, and no tree has a fault of typing
 pub record IsRunnable (spec : Spec) : Type 0 where
   pub forms : are_first_decls spec.decls ≡ true
-  pub typed : IsTyped spec
+  pub typed : IsTypedAsFirstForm spec
 
 -- no tree inside a declaration has a fault
 pub record HasCleanDecls (spec : Spec) : Type 0 where

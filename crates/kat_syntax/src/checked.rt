@@ -62,7 +62,7 @@ impl Checked {
     }
 
     /// Gives the specification up; no memory is taken.
-    pub fn into_spec(self) -> Spec
+    pub(crate) fn into_spec(self) -> Spec
         ensures spec { result ≡ self }
         ensures typed { IsTyped self }
     {

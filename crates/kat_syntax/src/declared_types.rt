@@ -1,6 +1,6 @@
 //! The declared types: by name, and by position.
 
-ghost use Rattle.std.specs.Prelude.{◌≡◌, ◌<◌, ◌^◌, length, map, IfOk, slice_get};
+ghost use Rattle.std.specs.Prelude.{◌≡◌, ◌<◌, ◌^◌, length, IfOk, slice_get};
 ghost use Rattle.std.specs.Option.{option_map};
 ghost use Rattle.kat_syntax.specs.Declares.{is_type_decl, type_heads, type_before, type_of_name};
 ghost use Rattle.kat_syntax.specs.DeclaredTypes.{IsHeads, head_before, type_declared};

@@ -5,8 +5,8 @@ ghost use Rattle.std.specs.Prelude.{◌≡◌, true, MatchOption};
 ghost use Rattle.kat_ast.specs.Spec.{Spec};
 ghost use Rattle.kat_syntax.specs.MeaningByParts.{LetByParts, IfByParts, PartsAreCounted};
 ghost use Rattle.kat_syntax.specs.FirstForm.{are_first_decls};
-ghost use Rattle.kat_syntax.specs.FirstTypeFault.{IsTyped as IsTypedWhole, IsFirstTypeFault, first_type_fault};
-ghost use Rattle.kat_syntax.specs.Runnable.{IsTyped, IsRunnable, HasCleanDecls, HasDistinctRegisters, HasStepFunction};
+ghost use Rattle.kat_syntax.specs.FirstTypeFault.{IsTyped, IsFirstTypeFault, first_type_fault};
+ghost use Rattle.kat_syntax.specs.Runnable.{IsTypedAsFirstForm, IsRunnable, HasCleanDecls, HasDistinctRegisters, HasStepFunction};
 
 /// What a `let` or an `if` does is what its parts do: the first statement and then the second, or
 /// one of the two. A failure stands in the whole behind what stands before its part, and a part is
@@ -21,8 +21,8 @@ pub fn statements_do_their_parts()
 /// distinct names. One that can be run has no more declarations than it may, a step declaration,
 /// and the function that it names, which has no parameters.
 pub fn typed_specifications_have_tables()
-    ensures decls { (spec : Spec) → IsTyped spec → HasCleanDecls spec }
-    ensures registers { (spec : Spec) → IsTyped spec → HasDistinctRegisters spec }
+    ensures decls { (spec : Spec) → IsTypedAsFirstForm spec → HasCleanDecls spec }
+    ensures registers { (spec : Spec) → IsTypedAsFirstForm spec → HasDistinctRegisters spec }
     ensures step { (spec : Spec) → IsRunnable spec → HasStepFunction spec }
 {}
 
@@ -30,12 +30,12 @@ pub fn typed_specifications_have_tables()
 /// that has any; where there is none, the specification is typed.
 pub fn first_faults_are_least()
     ensures { (spec : Spec) →
-        MatchOption (first_type_fault spec) (IsTypedWhole spec) (IsFirstTypeFault spec) }
+        MatchOption (first_type_fault spec) (IsTyped spec) (IsFirstTypeFault spec) }
 {}
 
 /// A typed specification can be run where its declarations are all of forms that can be run: the
 /// typing of those forms finds no fault where the whole typing finds none.
 pub fn typed_first_forms_can_be_run()
     ensures { (spec : Spec) →
-        IsTypedWhole spec → are_first_decls spec.decls ≡ true → IsRunnable spec }
+        IsTyped spec → are_first_decls spec.decls ≡ true → IsRunnable spec }
 {}

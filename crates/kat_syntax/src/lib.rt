@@ -30,5 +30,4 @@ pub use laws::{
 pub use limits::MOST_DECLARATIONS;
 pub use named::Named;
 pub use runnable::{Runnable, StepFunction};
-pub use tables::is_function;
 pub use type_rule::TypeRule;

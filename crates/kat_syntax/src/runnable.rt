@@ -1,10 +1,11 @@
 //! A specification that can be run, with its tables.
 
-ghost use Rattle.std.specs.Prelude.{◌≡◌, ◌+◌, ◌<◌, ◌^◌, true, IfOk};
+ghost use Rattle.std.specs.Prelude.{◌≡◌, ◌+◌, ◌<◌, true, IfOk};
 ghost use Rattle.kat_names.specs.Names.{position_of};
 ghost use Rattle.kat_ast.specs.Statements.{trees_of_stm};
 ghost use Rattle.kat_ast.specs.Limits.{decl_trees_bound};
 ghost use Rattle.kat_syntax.specs.FirstForm.{is_first_stm, are_first_decls};
+ghost use Rattle.kat_syntax.specs.FirstTypeFault.{IsTyped};
 ghost use Rattle.kat_syntax.specs.Runnable.{IsRunnable};
 ghost use Rattle.kat_syntax.specs.Cycle.{register_names};
 ghost use Rattle.kat_syntax.specs.RunTables.{IsStepFunction};
@@ -56,12 +57,13 @@ impl Runnable {
         ensures { IfOk result (λ runnable. runnable ≡ checked) }
     {
         typed_first_forms_can_be_run();
-        Runnable::of_first_form(alloc, checked.into_spec())
+        Runnable::with_tables(alloc, checked.into_spec())
     }
 
-    /// A specification with its tables, where the typing of the forms that can be run finds no fault.
-    pub fn of_first_form(alloc: Global, spec: Spec) -> Result<Runnable, AllocError>
-        requires { IsRunnable spec }
+    /// A typed specification that can be run, with its tables.
+    fn with_tables(alloc: Global, spec: Spec) -> Result<Runnable, AllocError>
+        requires typed { IsTyped spec }
+        requires runnable { IsRunnable spec }
         ensures { IfOk result (λ runnable. runnable ≡ spec) }
     {
         let decls = spec.decls();
@@ -78,7 +80,8 @@ impl Runnable {
 
     /// The specification itself.
     pub fn spec(&self) -> &Spec
-        ensures { result.now ≡ self.now }
+        ensures spec { result.now ≡ self.now }
+        ensures typed { IsTyped self.now }
     {
         &self.spec
     }

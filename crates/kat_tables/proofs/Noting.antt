@@ -7,7 +7,7 @@ use Rattle.std.specs.Str.{bytes_eq}
 use Rattle.kat_syntax.specs.Tables.{Name}
 use Rattle.kat_tables.specs.declared.kinds.Kinds.{Kinds}
 use Rattle.kat_syntax.specs.NamedItems.{Item, found, added}
-use Rattle.kat_tables.specs.Meanings.{Noted, Wanted, first_with, place_in, member_in, ctor_in, register_in, region_in, predicate_in, function_in, lemma_in, block_in, Tells, IsKinds}
+use Rattle.kat_tables.specs.Meanings.{Noted, Wanted, first_with, place_in, member_in, ctor_in, register_in, region_in, predicate_in, function_in, lemma_in, block_in, Finds, IsKinds}
 use Rattle.kat_tables.proofs.Adding.{found_added}
 
 -- a name more with its item, where there is one
@@ -65,8 +65,8 @@ found_added_if (Some item) all name x = found_added all name item x
 
 -- a table with one more noted name
 tells_push : {A : Type 0} (wanted : Wanted A) (all : List Noted) (one : Noted)
-    (named : List (Item A)) → Tells wanted all named →
-    Tells wanted (all ++ one ∷ []) (added_if (wanted one.stand one.meaning) named one.name)
+    (named : List (Item A)) → Finds wanted all named →
+    Finds wanted (all ++ one ∷ []) (added_if (wanted one.stand one.meaning) named one.name)
 tells_push wanted all one named tells =
     λ x. found_added_if (wanted one.stand one.meaning) named one.name x
     ∙ ap (λ f. option_or f (if bytes_eq one.name x then wanted one.stand one.meaning else None))

@@ -95,17 +95,17 @@ block_in stand ABlock = Some stand.decl
 block_in stand _ = None
 
 -- names with items that say of each name what is wanted of it
-abbrev pub Tells : {A : Type 0} → Wanted A → List Noted → List (Item A) → Type 0
-Tells wanted all named = (x : Name) → found named x ≡ first_with wanted all x
+abbrev pub Finds : {A : Type 0} → Wanted A → List Noted → List (Item A) → Type 0
+Finds wanted all named = (x : Name) → found named x ≡ first_with wanted all x
 
 -- tables of all names, and of those of each kind
 pub record IsKinds (all : List Noted) (kinds : Kinds) : Type 0 where
-  pub names : Tells place_in all kinds.names
-  pub members : Tells member_in all kinds.members
-  pub ctors : Tells ctor_in all kinds.ctors
-  pub registers : Tells register_in all kinds.registers
-  pub regions : Tells region_in all kinds.regions
-  pub predicates : Tells predicate_in all kinds.predicates
-  pub functions : Tells function_in all kinds.functions
-  pub lemmas : Tells lemma_in all kinds.lemmas
-  pub blocks : Tells block_in all kinds.blocks
+  pub names : Finds place_in all kinds.names
+  pub members : Finds member_in all kinds.members
+  pub ctors : Finds ctor_in all kinds.ctors
+  pub registers : Finds register_in all kinds.registers
+  pub regions : Finds region_in all kinds.regions
+  pub predicates : Finds predicate_in all kinds.predicates
+  pub functions : Finds function_in all kinds.functions
+  pub lemmas : Finds lemma_in all kinds.lemmas
+  pub blocks : Finds block_in all kinds.blocks

@@ -1,6 +1,6 @@
 //! What the declarations declare, noted one after another.
 
-ghost use Rattle.std.specs.Prelude.{◌≡◌, ◌+◌, ◌<◌, ◌^◌, ◌++◌, List, length, map, IfOk, OnOk};
+ghost use Rattle.std.specs.Prelude.{◌+◌, ◌<◌, ◌^◌, ◌++◌, List, length, map, IfOk, OnOk};
 ghost use Rattle.kat_ast.specs.Declarations.{trees_of_decl};
 ghost use Rattle.kat_ast.specs.Types.{trees_of_params};
 ghost use Rattle.kat_ast.specs.declared.decl.DeclForm.{DeclForm};

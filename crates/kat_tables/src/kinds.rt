@@ -1,6 +1,6 @@
 //! All declared names, by kind.
 
-ghost use Rattle.std.specs.Prelude.{◌≡◌, [], ◌∷◌, ◌++◌, List, IfOk, OnOk};
+ghost use Rattle.std.specs.Prelude.{[], ◌∷◌, ◌++◌, List, IfOk, OnOk};
 ghost use Rattle.kat_tables.specs.Meanings.{Noted, IsKinds};
 
 use crate::seen::{CtorSeen, RegisterSeen, Stand};

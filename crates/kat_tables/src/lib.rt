@@ -14,7 +14,6 @@ mod tables;
 mod widths;
 
 pub use around::Around;
-pub use kat_syntax::Named;
 pub use params::{FunctionSeen, Params, ProofSeen, RecordSeen};
 pub use range::{Memory, Range};
 pub use seen::{CtorSeen, RegisterSeen};

@@ -2,7 +2,6 @@
 
 ghost use Rattle.std.specs.Prelude.{◌≡◌, ◌++◌, length, slice_get};
 ghost use Rattle.std.specs.Option.{option_copied, option_map, option_flatten};
-ghost use Rattle.kat_ast.specs.declared.decl.DeclForm.{DeclForm};
 ghost use Rattle.kat_syntax.specs.Declares.{TypedName, typed_params, types_of};
 ghost use Rattle.kat_syntax.specs.TypesWritten.{local_type};
 ghost use Rattle.kat_syntax.specs.TypingAssertions.{inputs_and_outputs};
@@ -138,7 +137,7 @@ impl<'a> Model for ProofSeen<'a> {
 
 impl<'a> ProofSeen<'a> {
     /// A predicate or a lemma that is declared at this number and takes these.
-    pub fn new(
+    pub(crate) fn new(
         tables: &'a Tables<'a>,
         decl: u32,
         inputs: &'a [Param],
@@ -202,7 +201,7 @@ impl<'a> Model for FunctionSeen<'a> {
 
 impl<'a> FunctionSeen<'a> {
     /// A function with these parameters, whose result is of this type.
-    pub fn new(params: Params<'a>, ty: Option<Ty>) -> FunctionSeen<'a>
+    pub(crate) fn new(params: Params<'a>, ty: Option<Ty>) -> FunctionSeen<'a>
         ensures { result ≡ record { params = params.entry; result = ty } }
     {
         FunctionSeen { params, ty }
@@ -240,7 +239,7 @@ impl<'a> Model for RecordSeen<'a> {
 
 impl<'a> RecordSeen<'a> {
     /// The record type at this position, with these fields.
-    pub fn new(of: u32, fields: Params<'a>) -> RecordSeen<'a>
+    pub(crate) fn new(of: u32, fields: Params<'a>) -> RecordSeen<'a>
         ensures { result ≡ record { of = of; fields = fields.entry } }
     {
         RecordSeen { of, fields }

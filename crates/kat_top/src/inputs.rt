@@ -1,7 +1,7 @@
 //! The inputs of a job: each is asked for by one read, and then judged by its bytes and by what was
 //! read before it.
 
-ghost use Rattle.std.specs.Prelude.{◌≡◌, ◌≤◌, ◌+◌, length, List, Some};
+ghost use Rattle.std.specs.Prelude.{◌≡◌, ◌≤◌, length, List, Some};
 ghost use Rattle.kat_top.specs.declared.fault.Fault.TheVariants as fault;
 ghost use Rattle.kat_top.specs.Inputs.{Thing, ASpec, AChecked, AMachine, AnImage, TheSpec, TheChecked, TheMachine, TheState, machine_of};
 ghost use Rattle.kat_top.specs.Limits.{most_bytes};

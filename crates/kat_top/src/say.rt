@@ -1,6 +1,6 @@
 //! What is written: a text with its status.
 
-ghost use Rattle.std.specs.Prelude.{◌≡◌, ◌++◌, IfOk};
+ghost use Rattle.std.specs.Prelude.{◌≡◌, IfOk};
 ghost use Rattle.kat_top.specs.Answers.{Gives, IsPlain, answer_of_error, answer_of_fault};
 ghost use Rattle.kat_top.specs.Jobs.{check_answer, print_answer, typed_text};
 

@@ -22,8 +22,8 @@ pub enum TypeError {
     Memory,
 }
 
-/// Takes a specification as a typed one, where no condition of a fault of typing holds at any tree of
-/// it; otherwise the error is the first fault.
+/// Takes a specification as a typed one, where no condition of a fault of typing holds at any tree;
+/// otherwise the error is the first fault.
 pub fn check(alloc: Global, spec: Spec) -> Result<Checked, TypeError>
     ensures same { IfOk result (λ checked. checked ≡ spec) }
     ensures typed { IfOk result (λ checked. IsTyped spec) }

@@ -2,13 +2,12 @@
 
 ghost use Rattle.std.specs.Prelude.{◌≡◌, ℕ, ◌+◌, ◌-◌, ◌<◌, ◌^◌, ◌&&◌, nat_le, nat_lt, List, map, sum, slice_get, unwrap_or, Some, OnOk};
 ghost use Rattle.kat_ast.specs.declared.decl.DeclForm.{DeclForm};
-ghost use Rattle.kat_syntax.specs.Declares.{is_type_decl};
 ghost use Rattle.kat_syntax.specs.Memories.{protected_by, code_of_decl};
 ghost use Rattle.kat_syntax.specs.TypesWritten.{greatest, part_sizes, size_here, size_of_name};
 ghost use Rattle.kat_syntax.specs.TypingDeclarations.{is_in_limits, fields_of_decl};
 ghost use Rattle.kat_typing.specs.Totals.{IsTotals, most_u64, next, sizes_before};
 
-use kat_syntax::{CellsKind, DeclForm, MOST_DECLARATIONS, Param, RegisterKind};
+use kat_syntax::{CellsKind, DeclForm, MOST_DECLARATIONS, Param, RegisterKind, is_type_decl};
 use kat_tables::Around;
 use kat_value::Ty;
 use sqlite_items::Items;
@@ -186,14 +185,4 @@ fn size_at(sizes: &[u64], of: u32) -> u64
     ensures { result ≡ unwrap_or (slice_get sizes.now of) 1 }
 {
     sizes.get(of as usize).copied().unwrap_or(1)
-}
-
-/// Whether a declaration declares a type.
-fn is_type_decl(decl: &DeclForm) -> bool
-    ensures { result ≡ is_type_decl decl.now }
-{
-    matches!(
-        decl,
-        DeclForm::Enum { .. } | DeclForm::Union { .. } | DeclForm::Record { .. }
-    )
 }

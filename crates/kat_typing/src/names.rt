@@ -1,6 +1,6 @@
 //! The names that a declaration declares itself, and the types of its constructors and fields.
 
-ghost use Rattle.std.specs.Prelude.{◌≡◌, ◌+◌, ◌<◌, ◌^◌, [], length, List, OnOk};
+ghost use Rattle.std.specs.Prelude.{◌≡◌, ◌+◌, ◌<◌, ◌^◌, [], length, OnOk};
 ghost use Rattle.kat_ast.specs.Types.{trees_of_params};
 ghost use Rattle.kat_ast.specs.Declarations.{trees_of_decl};
 ghost use Rattle.kat_ast.specs.declared.decl.DeclForm.{DeclForm};
@@ -12,8 +12,8 @@ ghost use Rattle.kat_syntax.specs.TypingDeclarations.{taken_names, own_names, st
 
 use kat_ast::count_type;
 use kat_expr_types::{Faults, judge_type};
-use kat_syntax::{DeclForm, Param, TypeRule};
-use kat_tables::{Around, Named};
+use kat_syntax::{DeclForm, Named, Param, TypeRule};
+use kat_tables::Around;
 use kat_text::Text;
 use sqlite_items::Items;
 use std::alloc::{AllocError, Global};

@@ -1,5 +1,6 @@
 //! Each condition of typing, by its number: texts of which it is the first fault, and a neighbour
-//! of them that is typed; texts with two faults, of which the first is named; and the same in `run`.
+//! of them that is typed; texts with two faults, of which the first is named; and the same in
+//! `run`.
 
 use crate::tests::job_agrees;
 use kat_top::Status;
@@ -38,8 +39,8 @@ fn row_agrees(alloc: Global, decls: &str, answer: &str) -> Result<bool, AllocErr
     check_agrees(alloc, whole.as_str(), answer)
 }
 
-/// Declarations, and what `check` answers where they stand in front: by condition, the first four
-/// or more of each with that condition as their first fault.
+/// Declarations, and what `check` answers where they stand in front: by condition, three or more of
+/// each with that condition as their first fault, and behind them what is typed.
 const CONDITIONS: &[(&str, &str)] = &[
     // A name that is declared is taken, everywhere: a local hides no name, an earlier or a later one.
     ("(enum E (A B)) (register A bool plain)", "type 1 2 1"),
@@ -66,7 +67,8 @@ const CONDITIONS: &[(&str, &str)] = &[
         "type 1 16 1",
     ),
     (
-        "(fun f () unit (ret unit)) (contract f () (pre (star)) (res r) (post (exists (r bool) (pure r))))",
+        "(fun f () unit (ret unit)) (contract f () (pre (star)) (res r) (post (exists (r bool) \
+            (pure r))))",
         "type 1 16 1",
     ),
     (
@@ -115,7 +117,8 @@ const CONDITIONS: &[(&str, &str)] = &[
         "type 1 13 4",
     ),
     (
-        "(fun f () unit (ret unit)) (contract f () (pre (pure (eq r unit))) (res r) (post (star)))",
+        "(fun f () unit (ret unit)) (contract f () (pre (pure (eq r unit))) (res r) (post \
+            (star)))",
         "type 1 10 4",
     ),
     (
@@ -186,11 +189,13 @@ const CONDITIONS: &[(&str, &str)] = &[
         "type 1 5 7",
     ),
     (
-        "(lemma L ((p bool)) ((n bool)) (pre (pure n)) (post (star)) (steps)) (fun f () unit (lemma L true true))",
+        "(lemma L ((p bool)) ((n bool)) (pre (pure n)) (post (star)) (steps)) (fun f () unit \
+            (lemma L true true))",
         "type 1 5 7",
     ),
     (
-        "(lemma L ((p bool)) ((n bool)) (pre (pure n)) (post (star)) (steps)) (fun f () unit (lemma L true))",
+        "(lemma L ((p bool)) ((n bool)) (pre (pure n)) (post (star)) (steps)) (fun f () unit \
+            (lemma L true))",
         "typed declarations 8",
     ),
     // A slice is inside: lo is at most hi, and hi below the width.
@@ -238,7 +243,8 @@ const CONDITIONS: &[(&str, &str)] = &[
         "type 1 8 10",
     ),
     (
-        "(enum E (A B)) (fun f ((e E)) unit (case e (A (ret unit)) (A (ret unit)) (B (ret unit))))",
+        "(enum E (A B)) (fun f ((e E)) unit (case e (A (ret unit)) (A (ret unit)) (B (ret \
+            unit))))",
         "type 1 8 10",
     ),
     (
@@ -255,7 +261,8 @@ const CONDITIONS: &[(&str, &str)] = &[
         "type 1 8 11",
     ),
     (
-        "(union U ((K bool) (L unit))) (fun f ((u U)) bool (match u (K p (ret p)) (L q (ret q))))",
+        "(union U ((K bool) (L unit))) (fun f ((u U)) bool (match u (K p (ret p)) (L q (ret \
+            q))))",
         "type 1 8 11",
     ),
     (
@@ -280,7 +287,18 @@ const CONDITIONS: &[(&str, &str)] = &[
     ("(cells protected 0 1) (memory 8 8 0 16)", "type 0 0 13"),
     ("(memory 8 8 0 16) (memory 8 8 0 16)", "type 1 0 13"),
     (
-        "(fun f () unit (ret unit)) (contract f () (pre (region g)) (res z) (post (star))) (memory 8 8 0 16) (region g () i true)",
+        "(fun f () unit (ret unit)) (contract f () (pre (region g)) (res z) (post (star))) \
+            (memory 8 8 0 16) (region g () i true)",
+        "type 1 6 13",
+    ),
+    (
+        "(fun f () unit (store (bits 8 0) (bits 8 0))) (memory 8 8 0 16)",
+        "type 0 5 13",
+    ),
+    ("(code 0 1) (memory 8 8 0 16)", "type 0 0 13"),
+    (
+        "(fun f () unit (ret unit)) (contract f () (pre (cell (bits 8 0) (bits 8 0))) (res z) \
+            (post (star))) (memory 8 8 0 16)",
         "type 1 6 13",
     ),
     (
@@ -333,7 +351,8 @@ const CONDITIONS: &[(&str, &str)] = &[
         "type 1 7 18",
     ),
     (
-        "(register p bool protected) (fun f () unit (ret unit)) (contract f () (pre (pure (kept p))) (res r) (post (star)))",
+        "(register p bool protected) (fun f () unit (ret unit)) (contract f () (pre (pure (kept \
+            p))) (res r) (post (star)))",
         "type 2 8 18",
     ),
     (
@@ -341,15 +360,23 @@ const CONDITIONS: &[(&str, &str)] = &[
         "type 1 7 18",
     ),
     (
-        "(register p bool protected) (block c (entry (pure (before p))) (within 1) (change true))",
+        "(register p bool protected) (block c (entry (pure (before p))) (within 1) (change \
+            true))",
         "type 1 7 18",
     ),
     (
-        "(memory 8 8 0 16) (cells outside 0 1) (block c (entry (pure (eq (kept_cell 0) (bits 8 0)))) (within 1) (change true))",
+        "(memory 8 8 0 16) (cells outside 0 1) (block c (entry (pure (eq (kept_cell 0) (bits 8 \
+            0)))) (within 1) (change true))",
         "type 2 9 18",
     ),
     (
-        "(register p bool protected) (block c (entry (pure (kept p))) (within 1) (change (eq (before p) (after p))))",
+        "(register o (bits 8) outside) (block c (entry (pure (eq (kept o) (bits 8 0)))) (within \
+            1) (change true))",
+        "type 1 9 18",
+    ),
+    (
+        "(register p bool protected) (block c (entry (pure (kept p))) (within 1) (change (eq \
+            (before p) (after p))))",
         "typed declarations 8",
     ),
     // A predicate or a lemma is used behind its declaration.
@@ -376,7 +403,8 @@ const CONDITIONS: &[(&str, &str)] = &[
         "type 0 15 20",
     ),
     (
-        "(register r bool plain) (lemma L () () (pre (star)) (post (star)) (steps (write r true)))",
+        "(register r bool plain) (lemma L () () (pre (star)) (post (star)) (steps (write r \
+            true)))",
         "type 1 15 20",
     ),
     (
@@ -406,47 +434,35 @@ const CONDITIONS: &[(&str, &str)] = &[
         "(block c (entry (star)) (within 256) (change true))",
         "typed declarations 7",
     ),
-    // No count passes its limit: protected places, code cells, fields, the size of a type.
+    // The places that are protected have a limit.
     ("(memory 8 8 0 200) (cells protected 0 65)", "type 1 0 23"),
     (
         "(memory 8 8 0 200) (register p bool protected) (cells protected 0 64)",
         "type 2 0 23",
     ),
     (
-        "(record R ((au bool) (av bool) (aw bool) (ax bool) (ay bool) (az bool) (bu bool) (bv bool) (bw bool) (bx bool) (by bool) (bz bool) (cu bool) (cv bool) (cw bool) (cx bool) (cy bool) (cz bool) (du bool) (dv bool) (dw bool) (dx bool) (dy bool) (dz bool) (eu bool) (ev bool) (ew bool) (ex bool) (ey bool) (ez bool) (fu bool) (fv bool) (fw bool)))",
-        "type 0 0 23",
-    ),
-    (
-        "(record R ((au bool) (av bool) (aw bool) (ax bool) (ay bool) (az bool) (bu bool) (bv bool) (bw bool) (bx bool) (by bool) (bz bool) (cu bool) (cv bool) (cw bool) (cx bool) (cy bool) (cz bool) (du bool) (dv bool) (dw bool) (dx bool) (dy bool) (dz bool) (eu bool) (ev bool) (ew bool) (ex bool) (ey bool) (ez bool) (fu bool))) (record Q ((a R) (b R) (c R) (d R) (e R) (f R) (g R) (h R)))",
-        "type 1 0 23",
-    ),
-    (
         "(memory 8 8 0 200) (cells protected 0 64)",
-        "typed declarations 8",
-    ),
-    (
-        "(record R ((au bool) (av bool) (aw bool) (ax bool) (ay bool) (az bool) (bu bool) (bv bool) (bw bool) (bx bool) (by bool) (bz bool) (cu bool) (cv bool) (cw bool) (cx bool) (cy bool) (cz bool) (du bool) (dv bool) (dw bool) (dx bool) (dy bool) (dz bool) (eu bool) (ev bool) (ew bool) (ex bool) (ey bool) (ez bool) (fu bool) (fv bool)))",
-        "typed declarations 7",
-    ),
-    (
-        "(record R ((au bool) (av bool) (aw bool) (ax bool) (ay bool) (az bool) (bu bool) (bv bool) (bw bool) (bx bool) (by bool) (bz bool) (cu bool) (cv bool) (cw bool) (cx bool) (cy bool) (cz bool) (du bool) (dv bool) (dw bool) (dx bool) (dy bool) (dz bool) (eu bool) (ev bool) (ew bool) (ex bool) (ey bool) (ez bool) (fu bool))) (record Q ((a R) (b R) (c R) (d R) (e R) (f R) (g R)))",
         "typed declarations 8",
     ),
     // A function has one contract.
     (
-        "(fun f () unit (ret unit)) (contract f () (pre (star)) (res r) (post (star))) (contract f () (pre (star)) (res r) (post (star)))",
+        "(fun f () unit (ret unit)) (contract f () (pre (star)) (res r) (post (star))) (contract \
+            f () (pre (star)) (res r) (post (star)))",
         "type 2 0 24",
     ),
     (
-        "(fun f () unit (ret unit)) (contract f () (pre (star)) (res r) (post (star))) (contract f ((f bool)) (pre (star)) (res r) (post (star)))",
+        "(fun f () unit (ret unit)) (contract f () (pre (star)) (res r) (post (star))) (contract \
+            f ((f bool)) (pre (star)) (res r) (post (star)))",
         "type 2 0 24",
     ),
     (
-        "(contract s () (pre (star)) (res r) (post (star))) (contract s ((q bool)) (pre (star)) (res r) (post (pure q)))",
+        "(contract s () (pre (star)) (res r) (post (star))) (contract s ((q bool)) (pre (star)) \
+            (res r) (post (pure q)))",
         "type 1 0 24",
     ),
     (
-        "(fun f () unit (ret unit)) (contract f () (pre (star)) (res r) (post (star))) (contract s () (pre (star)) (res r) (post (star)))",
+        "(fun f () unit (ret unit)) (contract f () (pre (star)) (res r) (post (star))) (contract \
+            s () (pre (star)) (res r) (post (star)))",
         "typed declarations 9",
     ),
 ];
@@ -495,6 +511,31 @@ const TWO_FAULTS: &[(&str, &str)] = &[
         "(fun f () unit (if unit (ret true) (ret unit)))",
         "type 0 5 11",
     ),
+    (
+        "(fun f () bool (ret (eq (reg n) (slice 0 7 (bits 8 0)))))",
+        "type 0 9 18",
+    ),
+    (
+        "(register p bool plain) (fun f () unit (check (eq true (reg p))))",
+        "type 1 10 18",
+    ),
+    (
+        "(fun f ((x bool)) (bits 8) (ret (add x (slice 0 7 (bits 8 0)))))",
+        "type 0 14 6",
+    ),
+    (
+        "(fun f () (bits 8) (if true (ret true) (ret unit)))",
+        "type 0 7 11",
+    ),
+    (
+        "(lemma L () () (pre (star)) (post (star)) (steps (case true)))",
+        "type 0 15 20",
+    ),
+    (
+        "(memory 8 8 0 256) (cells protected 0 60) (cells protected 58 66)",
+        "type 2 0 16",
+    ),
+    ("(cells protected 0 65) (memory 8 8 0 256)", "type 0 0 13"),
 ];
 
 #[test]
@@ -506,53 +547,119 @@ fn two_faults(rt: HostRuntime) -> Result<(), Fail> {
     Ok(())
 }
 
-/// All declarations of a text, of which what has to stand once does not, or stands elsewhere.
-const ONCE: &[(&str, &str)] = &[
+/// All declarations of a text: where what has to stand once does not, or stands elsewhere, also
+/// beside another fault; and conditions of the dispatch.
+const WHOLE: &[(&str, &str)] = &[
     (
-        "(fun s () bool (ret true)) (step s) (dispatch (else (block b))) (untrusted (star)) (block b (entry (star)) (within 1) (change true)) (boot b)",
+        "(fun s () bool (ret true)) (step s) (dispatch (else (block b))) (untrusted (star)) \
+            (block b (entry (star)) (within 1) (change true)) (boot b)",
         "type 1 2 21",
     ),
     (
-        "(fun s ((a bool)) unit (ret unit)) (step s) (dispatch (else (block b))) (untrusted (star)) (block b (entry (star)) (within 1) (change true)) (boot b)",
+        "(fun s ((a bool)) unit (ret unit)) (step s) (dispatch (else (block b))) (untrusted \
+            (star)) (block b (entry (star)) (within 1) (change true)) (boot b)",
         "type 1 2 21",
     ),
     (
-        "(step s) (dispatch (else (block b))) (untrusted (star)) (block b (entry (star)) (within 1) (change true)) (boot b) (fun s () unit (ret unit))",
+        "(step s) (dispatch (else (block b))) (untrusted (star)) (block b (entry (star)) (within \
+            1) (change true)) (boot b) (fun s () unit (ret unit))",
         "typed declarations 6",
     ),
     (
-        "(fun s () unit (ret unit)) (dispatch (else (block b))) (untrusted (star)) (block b (entry (star)) (within 1) (change true)) (boot b)",
+        "(fun s () unit (ret unit)) (dispatch (else (block b))) (untrusted (star)) (block b \
+            (entry (star)) (within 1) (change true)) (boot b)",
         "type 5 0 21",
     ),
     (
-        "(fun s () unit (ret unit)) (step s) (untrusted (star)) (block b (entry (star)) (within 1) (change true)) (boot b)",
+        "(fun s () unit (ret unit)) (step s) (untrusted (star)) (block b (entry (star)) (within \
+            1) (change true)) (boot b)",
         "type 5 0 21",
     ),
     (
-        "(fun s () unit (ret unit)) (step s) (dispatch (else (block b))) (block b (entry (star)) (within 1) (change true)) (boot b)",
+        "(fun s () unit (ret unit)) (step s) (dispatch (else (block b))) (block b (entry (star)) \
+            (within 1) (change true)) (boot b)",
         "type 5 0 21",
     ),
     (
-        "(fun s () unit (ret unit)) (step s) (dispatch (else (block b))) (untrusted (star)) (block b (entry (star)) (within 1) (change true))",
+        "(fun s () unit (ret unit)) (step s) (dispatch (else (block b))) (untrusted (star)) \
+            (block b (entry (star)) (within 1) (change true))",
         "type 5 0 21",
+    ),
+    (
+        "(register n (bits 8) plain) (fun f () unit (let a (read n) (if (ult a (bits 8 3)) \
+            (write n (add a (bits 8 1))) (fail)))) (step f)",
+        "type 3 0 21",
+    ),
+    ("(register n (bits 65) plain)", "type 0 5 3"),
+    (
+        "(register o (bits 1) outside) (fun s () unit (ret unit)) (step s) (dispatch (when (eq \
+            (reg o) (bits 1 0)) inside) (else (block b))) (untrusted (star)) (block b (entry \
+            (star)) (within 1) (change true)) (boot b)",
+        "type 3 6 18",
+    ),
+    (
+        "(register o (bits 1) plain) (fun s () unit (ret unit)) (step s) (dispatch (when (eq \
+            (reg o) (bits 1 0)) inside) (else (block b))) (untrusted (star)) (block b (entry \
+            (star)) (within 1) (change true)) (boot b)",
+        "typed declarations 7",
     ),
     ("", "type 0 0 21"),
 ];
 
 #[test]
-fn what_stands_once(rt: HostRuntime) -> Result<(), Fail> {
-    for (decls, answer) in ONCE {
+fn whole_texts(rt: HostRuntime) -> Result<(), Fail> {
+    for (decls, answer) in WHOLE {
         let agrees = check_agrees(rt.alloc(), decls, answer)?;
         assert!(rt; agrees, "at {decls}");
     }
     Ok(())
 }
 
-/// So many enums, each with a member.
-fn enums(alloc: Global, count: usize) -> Result<String, AllocError> {
+/// A record of 31 fields, whose size is 32.
+const RECORD: &str =
+    "(record R ((au bool) (av bool) (aw bool) (ax bool) (ay bool) (az bool) (bu bool) (bv bool) (bw \
+    bool) (bx bool) (by bool) (bz bool) (cu bool) (cv bool) (cw bool) (cx bool) (cy bool) (cz \
+    bool) (du bool) (dv bool) (dw bool) (dx bool) (dy bool) (dz bool) (eu bool) (ev bool) (ew \
+    bool) (ex bool) (ey bool) (ez bool) (fu bool)))";
+
+/// Declarations behind that record: the greatest size of a type is 256, a union's that of its
+/// largest payload and 1.
+const SIZES: &[(&str, &str)] = &[
+    (
+        "(record Q ((a R) (b R) (c R) (d R) (e R) (f R) (g R)))",
+        "typed declarations 8",
+    ),
+    (
+        "(record Q ((a R) (b R) (c R) (d R) (e R) (f R) (g R) (h R)))",
+        "type 1 0 23",
+    ),
+    (
+        "(record Q ((a R) (b R) (c R) (d R) (e R) (f R))) (union U ((K unit) (L Q))) (record Z \
+            ((a U) (b R)))",
+        "typed declarations 10",
+    ),
+    (
+        "(record Q ((a R) (b R) (c R) (d R) (e R) (f R) (g R))) (union U ((K unit) (L Q))) \
+            (record Z ((a U) (b R)))",
+        "type 3 0 23",
+    ),
+];
+
+#[test]
+fn sizes(rt: HostRuntime) -> Result<(), Fail> {
+    for (decls, answer) in SIZES {
+        let decls = format!(in rt.alloc(); "{RECORD} {decls}")?;
+        let agrees = row_agrees(rt.alloc(), decls.as_str(), answer)?;
+        assert!(rt; agrees, "at {decls}");
+    }
+    Ok(())
+}
+
+/// So many texts, one behind another, each with its number between a front and a back.
+fn repeated(alloc: Global, count: usize, front: &str, back: &str) -> Result<String, AllocError> {
     let mut text = String::new(alloc);
     for number in 0..count {
-        let one = format!(in alloc; "(enum e{number} (m{number})) ")?;
+        let one = format!(in alloc; "{front}{number}{back}")?;
         text.push_str(one.as_str())?;
     }
     Ok(text)
@@ -560,12 +667,33 @@ fn enums(alloc: Global, count: usize) -> Result<String, AllocError> {
 
 #[test]
 fn declarations_up_to_their_limit(rt: HostRuntime) -> Result<(), Fail> {
-    let most = enums(rt.alloc(), 4090)?;
-    let agrees = row_agrees(rt.alloc(), most.as_str(), "typed declarations 4096")?;
-    assert!(rt; agrees);
-    let more = enums(rt.alloc(), 4092)?;
-    let agrees = row_agrees(rt.alloc(), more.as_str(), "type 4096 0 23")?;
-    assert!(rt; agrees);
+    for (count, answer) in [(4090, "typed declarations 4096"), (4091, "type 4096 0 23")] {
+        let decls = repeated(rt.alloc(), count, "(record e", " ((f bool)))")?;
+        let agrees = row_agrees(rt.alloc(), decls.as_str(), answer)?;
+        assert!(rt; agrees, "at {count}");
+    }
+    Ok(())
+}
+
+#[test]
+fn code_up_to_its_limit(rt: HostRuntime) -> Result<(), Fail> {
+    for (count, answer) in [(256, "typed declarations 8"), (257, "type 1 0 23")] {
+        let values = repeated(rt.alloc(), count, " ", "")?;
+        let decls = format!(in rt.alloc(); "(memory 9 16 0 512) (code 0{})", values.as_str())?;
+        let agrees = row_agrees(rt.alloc(), decls.as_str(), answer)?;
+        assert!(rt; agrees, "at {count}");
+    }
+    Ok(())
+}
+
+#[test]
+fn fields_up_to_their_limit(rt: HostRuntime) -> Result<(), Fail> {
+    for (count, answer) in [(32, "typed declarations 7"), (33, "type 0 0 23")] {
+        let fields = repeated(rt.alloc(), count, "(f", " bool)")?;
+        let decls = format!(in rt.alloc(); "(record R ({}))", fields.as_str())?;
+        let agrees = row_agrees(rt.alloc(), decls.as_str(), answer)?;
+        assert!(rt; agrees, "at {count}");
+    }
     Ok(())
 }
 
