@@ -39,9 +39,9 @@ fn row_agrees(alloc: Global, decls: &str, answer: &str) -> Result<bool, AllocErr
     check_agrees(alloc, whole.as_str(), answer)
 }
 
-/// Declarations, and what `check` answers where they stand in front: by condition, three or more of
-/// each with that condition as their first fault, and behind them what is typed.
-const CONDITIONS: &[(&str, &str)] = &[
+/// Of names and widths: by condition, three or more declarations with
+/// that condition as their first fault, and behind them what is typed.
+const NAMES: &[(&str, &str)] = &[
     // A name that is declared is taken, everywhere: a local hides no name, an earlier or a later one.
     ("(enum E (A B)) (register A bool plain)", "type 1 2 1"),
     ("(enum E (A A))", "type 0 5 1"),
@@ -145,6 +145,20 @@ const CONDITIONS: &[(&str, &str)] = &[
         "(fun f () (bits 64) (ret (bits 64 18446744073709551615)))",
         "typed declarations 7",
     ),
+];
+
+#[test]
+fn names(rt: HostRuntime) -> Result<(), Fail> {
+    for (decls, answer) in NAMES {
+        let agrees = row_agrees(rt.alloc(), decls, answer)?;
+        assert!(rt; agrees, "at {decls}");
+    }
+    Ok(())
+}
+
+/// Of operations and arguments: by condition, three or more declarations with
+/// that condition as their first fault, and behind them what is typed.
+const OPERATIONS: &[(&str, &str)] = &[
     // An expression is of the type that is wanted.
     (
         "(fun f () (bits 9) (ret (add true (bits 9 0))))",
@@ -232,6 +246,20 @@ const CONDITIONS: &[(&str, &str)] = &[
         "(fun f () (bits 64) (ret (cat (bits 32 0) (bits 32 0))))",
         "typed declarations 7",
     ),
+];
+
+#[test]
+fn operations(rt: HostRuntime) -> Result<(), Fail> {
+    for (decls, answer) in OPERATIONS {
+        let agrees = row_agrees(rt.alloc(), decls, answer)?;
+        assert!(rt; agrees, "at {decls}");
+    }
+    Ok(())
+}
+
+/// Of arms, branches and bodies: by condition, three or more declarations with
+/// that condition as their first fault, and behind them what is typed.
+const BODIES: &[(&str, &str)] = &[
     // Arms list the members of an enum, or the constructors of a union, each once and in order.
     ("(enum E (A)) (fun f ((e E)) unit (case e))", "type 1 8 10"),
     (
@@ -278,6 +306,20 @@ const CONDITIONS: &[(&str, &str)] = &[
         "type 1 8 12",
     ),
     ("(fun f () (bits 8) (fail))", "typed declarations 7"),
+];
+
+#[test]
+fn bodies(rt: HostRuntime) -> Result<(), Fail> {
+    for (decls, answer) in BODIES {
+        let agrees = row_agrees(rt.alloc(), decls, answer)?;
+        assert!(rt; agrees, "at {decls}");
+    }
+    Ok(())
+}
+
+/// Of the memory and its cells: by condition, three or more declarations with
+/// that condition as their first fault, and behind them what is typed.
+const CELLS: &[(&str, &str)] = &[
     // What speaks of cells stands behind the memory, and there is one.
     ("(region g () i true) (memory 8 8 0 16)", "type 0 0 13"),
     (
@@ -340,6 +382,20 @@ const CONDITIONS: &[(&str, &str)] = &[
         "(memory 8 8 0 16) (code 0 1 2) (cells outside 2 3) (cells protected 3 4)",
         "typed declarations 10",
     ),
+];
+
+#[test]
+fn cells(rt: HostRuntime) -> Result<(), Fail> {
+    for (decls, answer) in CELLS {
+        let agrees = row_agrees(rt.alloc(), decls, answer)?;
+        assert!(rt; agrees, "at {decls}");
+    }
+    Ok(())
+}
+
+/// Of where things stand, and counts: by condition, three or more declarations with
+/// that condition as their first fault, and behind them what is typed.
+const PLACES: &[(&str, &str)] = &[
     // A register outside is of bits.
     ("(register r bool outside)", "type 0 3 17"),
     ("(register r unit outside)", "type 0 3 17"),
@@ -468,8 +524,8 @@ const CONDITIONS: &[(&str, &str)] = &[
 ];
 
 #[test]
-fn conditions(rt: HostRuntime) -> Result<(), Fail> {
-    for (decls, answer) in CONDITIONS {
+fn places(rt: HostRuntime) -> Result<(), Fail> {
+    for (decls, answer) in PLACES {
         let agrees = row_agrees(rt.alloc(), decls, answer)?;
         assert!(rt; agrees, "at {decls}");
     }
