@@ -10,7 +10,7 @@ ghost use Rattle.kat_print.specs.Terms.{name_of_type, name_of_member, name_of_ct
 ghost use Rattle.kat_value.specs.declared.value.Value.{out-Value};
 
 use crate::expressions::{put_bits, put_numbers};
-use kat_term::{Term, World};
+use kat_term::{Shape, Term, World, shape_of};
 use kat_text::TextBuilder;
 use kat_value::{Op, TypeDecl, Types, Value, word_of_op};
 use std::alloc::{AllocError, Global};
@@ -35,16 +35,14 @@ pub fn print_term(
 fn put_term(out: &mut TextBuilder, types: &Types, term: &Term) -> Result<(), AllocError>
     ensures { OnOk result (out.new ≡ out.old ++ text_of_term types.now term.now) }
 {
-    match term {
-        Term::Var(number) => put_variable(out, *number),
-        Term::Lit(value) => put_literal(out, types, value),
-        Term::Apply { op, args } => put_operation(out, types, *op, args.as_slice()),
-        Term::Make { of, ctor, inner } => {
-            put_made(out, types, name_of_ctor(types, *of, *ctor), inner.get())
+    match shape_of(term) {
+        Shape::Var(number) => put_variable(out, number),
+        Shape::Lit(value) => put_literal(out, types, value),
+        Shape::Apply { op, args } => put_operation(out, types, op, args),
+        Shape::Make { of, ctor, inner } => {
+            put_made(out, types, name_of_ctor(types, of, ctor), inner)
         }
-        Term::Rec { of, fields } => {
-            put_record(out, types, name_of_type(types, *of), fields.as_slice())
-        }
+        Shape::Rec { of, fields } => put_record(out, types, name_of_type(types, of), fields),
     }
 }
 

@@ -6,6 +6,7 @@ pub mod Operations
 pub mod Order
 pub mod Parts
 pub mod Provers
+pub mod Shapes
 pub mod Sizes
 pub mod Types
 pub mod Values

@@ -29,6 +29,18 @@ AnswersNorm (Err error.Depth) normal = normal ≡ Err kind.Depth
 AnswersNorm (Err error.Rules) normal = normal ≡ Err kind.Rules
 AnswersNorm (Err error.Memory) normal = ⊤
 
+-- a limit that a normal form can pass: nodes, depth or rules
+abbrev pub IsNormLimit : Kind → Type 0
+IsNormLimit kind.Nodes = ⊤
+IsNormLimit kind.Depth = ⊤
+IsNormLimit kind.Rules = ⊤
+IsNormLimit _ = ⊥
+
+-- each limit that a normal form passes is one of these
+abbrev pub LimitsOfNorm : Normal → Type 0
+LimitsOfNorm normal =
+    (world : World) (term : Term) (limit : Kind) → normal world term ≡ Err limit → IsNormLimit limit
+
 -- a normal form passes no limit
 abbrev pub PassesNoLimit : Result Term Kind → Type 0
 PassesNoLimit (Ok term) = ⊤

@@ -2,7 +2,7 @@
 use Rattle.std.specs.Prelude.{ℕ, Bool, if◌then◌else◌, List, [], ◌∷◌, Option, Some, None, option_and_then}
 use Rattle.kat_value.specs.declared.op.Op.{Op}
 use Rattle.kat_value.specs.declared.value.Value.{Value}
-use Rattle.kat_value.specs.declared.value.Value.TheVariants.{Unit as UnitValue, Bool as Truth, Bits}
+use Rattle.kat_value.specs.declared.value.Value.TheVariants.{Unit as UnitValue, Bool as Truth, Bits, Member}
 use Rattle.kat_term.specs.declared.term.Term.{Term}
 use Rattle.kat_term.specs.declared.term.Term.TheOpen.{Term-F, Var as Variable, Lit as Literal, Apply as Application, Make as Making, Rec as Record}
 use Rattle.kat_term.specs.declared.term.Term.TheViews.{out-Term}
@@ -32,6 +32,10 @@ truth b = Lit (Truth b)
 -- a literal of w bits
 abbrev pub bits : ℕ → ℕ → Term
 bits w n = Lit (Bits w n)
+
+-- a literal of a member of an enum
+abbrev pub member : ℕ → ℕ → Term
+member of index = Lit (Member of index)
 
 -- the number of one layer that is a variable
 abbrev pub variable_in : Term-F Term → Option ℕ

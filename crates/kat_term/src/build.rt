@@ -3,14 +3,29 @@
 
 ghost use Rattle.std.specs.Prelude.{◌≡◌, IfOk};
 ghost use Rattle.std.specs.Option.{option_map, option_copied};
-ghost use Rattle.kat_term.specs.Views.{MadeTerm, RecTerm, ThreeTerms, one, two, three, unit, truth, bits, var_of, literal_of, arg_of, two_args_of, three_args_of, made_of, rec_of, number_of, truth_of};
-ghost use Rattle.kat_term.specs.declared.term.Term.TheVariants.{Make as MakeTerm, Rec as Record};
+ghost use Rattle.kat_term.specs.Views.{MadeTerm, RecTerm, ThreeTerms, one, two, three, unit, truth, bits, member, var_of, literal_of, arg_of, two_args_of, three_args_of, made_of, rec_of, number_of, truth_of};
+ghost use Rattle.kat_term.specs.declared.term.Term.TheVariants.{Var, Lit, Apply, Make as MakeTerm, Rec as Record};
 
 use crate::equality::same_op;
 use crate::term::{Term, Terms};
 use kat_value::{Op, Value};
 use sqlite_items::{Boxed, Items};
 use std::alloc::{AllocError, Global};
+
+/// The variable with this number.
+pub fn var(number: u32) -> Term
+    ensures { result ≡ Var number }
+{
+    Term::Var(number)
+}
+
+/// A literal of this value, which is no value of a union or a record: those are made by `make` and
+/// `rec`.
+pub fn literal(value: Value) -> Term
+    ensures { result ≡ Lit value }
+{
+    Term::Lit(value)
+}
 
 /// The literal of type unit.
 pub fn unit() -> Term
@@ -31,6 +46,20 @@ pub fn bits(width: u32, number: u64) -> Term
     ensures { result ≡ bits width number }
 {
     Term::Lit(Value::Bits { width, number })
+}
+
+/// A literal of a member of an enum, by its position.
+pub fn member(of: u32, index: u32) -> Term
+    ensures { result ≡ member of index }
+{
+    Term::Lit(Value::Member { of, index })
+}
+
+/// An operation on terms. It takes no memory.
+pub fn apply(op: Op, args: Terms) -> Term
+    ensures { result ≡ Apply op args }
+{
+    Term::Apply { op, args }
 }
 
 /// An operation on one term.

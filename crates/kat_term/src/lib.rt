@@ -15,14 +15,15 @@ mod laws;
 mod limits;
 mod order;
 mod prover;
+mod shape;
 mod size;
 mod term;
 mod world;
 
 pub use build::{
-    MadeParts, Number, RecParts, Three, Two, apply_one, apply_three, apply_two, arg_of, args_of,
-    bits, literal_in, made_in, make, number_in, rec, rec_in, three_args_of, truth, truth_in, unit,
-    var_in,
+    MadeParts, Number, RecParts, Three, Two, apply, apply_one, apply_three, apply_two, arg_of,
+    args_of, bits, literal, literal_in, made_in, make, member, number_in, rec, rec_in,
+    three_args_of, truth, truth_in, unit, var, var_in,
 };
 pub use choices::Choices;
 pub use copy::{copy_term, copy_terms};
@@ -33,6 +34,7 @@ pub use laws::{equal_terms_are_tested, terms_by_parts, types_are_values, worlds_
 pub use limits::{MAX_DEPTH, MAX_NODES, MAX_VARS};
 pub use order::compare_terms;
 pub use prover::{Answer, NormError, Prover};
+pub use shape::{Shape, shape_of};
 pub use size::{has_depth, nodes_within};
 pub use term::{Term, Terms};
 pub use world::World;

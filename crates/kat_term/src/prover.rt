@@ -1,7 +1,7 @@
 //! Provers: what is asked of them, and the laws of their answers.
 
 ghost use Rattle.std.specs.Prelude.{◌≡◌, IfOk};
-ghost use Rattle.kat_term.specs.Provers.{Normal, Left, AnswersNorm, PassesNoLimit, NormKeeps, AnswersHold, ResiduesAreFormulas};
+ghost use Rattle.kat_term.specs.Provers.{Normal, Left, AnswersNorm, PassesNoLimit, LimitsOfNorm, NormKeeps, AnswersHold, ResiduesAreFormulas};
 
 use crate::term::Term;
 use crate::world::World;
@@ -68,6 +68,9 @@ pub trait Prover {
         ensures answer { IfOk result (λ answer. answer ≡ left self.old world.now goal.now) }
         ensures kept { normal self.new ≡ normal self.old }
         ensures left { left self.new ≡ left self.old };
+
+    /// A limit that a normal form passes is one that `norm` names.
+    ghost limits: { (prover : Self) → LimitsOfNorm (normal prover) };
 
     /// A normal form has the type of its term, and its value where the formulas are true.
     ghost keeps: { (prover : Self) → NormKeeps (normal prover) };

@@ -3,10 +3,10 @@
 use kat_print::print_term;
 use kat_term::{
     Choices, Term, World, apply_one, apply_three, apply_two, bits, compare_terms, copy_term,
-    has_depth, make, nodes_within, same_term, truth,
+    has_depth, make, member, nodes_within, same_term, truth, var,
 };
 use kat_text::Text;
-use kat_value::{Field, Op, Ty, TypeDecl, Types, Value};
+use kat_value::{Field, Op, Ty, TypeDecl, Types};
 use sqlite_items::Items;
 use std::alloc::{AllocError, Global};
 use std::cmp::Ordering;
@@ -63,25 +63,22 @@ fn terms(alloc: Global) -> Result<Vec<(Term, &'static str)>, AllocError> {
     let mut terms = Vec::new(alloc);
     terms.push((bits(8, 255), "(bits 8 255)"))?;
     terms.push((truth(false), "false"))?;
+    terms.push((member(0, 1), "(of Mode Kernel)"))?;
+    terms.push((make(alloc, 1, 1, var(0))?, "(make some v0)"))?;
     terms.push((
-        Term::Lit(Value::Member { of: 0, index: 1 }),
-        "(of Mode Kernel)",
-    ))?;
-    terms.push((make(alloc, 1, 1, Term::Var(0))?, "(make some v0)"))?;
-    terms.push((
-        apply_one(alloc, Op::Slice { hi: 7, lo: 2 }, Term::Var(12))?,
+        apply_one(alloc, Op::Slice { hi: 7, lo: 2 }, var(12))?,
         "(slice 7 2 v12)",
     ))?;
     terms.push((
-        apply_one(alloc, Op::Get { of: 2, field: 1 }, Term::Var(0))?,
+        apply_one(alloc, Op::Get { of: 2, field: 1 }, var(0))?,
         "(get Pair word v0)",
     ))?;
     terms.push((
-        apply_two(alloc, Op::Eq, bits(8, 255), Term::Var(0))?,
+        apply_two(alloc, Op::Eq, bits(8, 255), var(0))?,
         "(eq (bits 8 255) v0)",
     ))?;
     terms.push((
-        apply_three(alloc, Op::Ite, Term::Var(3), truth(true), truth(false))?,
+        apply_three(alloc, Op::Ite, var(3), truth(true), truth(false))?,
         "(ite v3 true false)",
     ))?;
     Ok(terms)
