@@ -20,7 +20,7 @@ heads_with k p (Some one) decls =
     record { decl = k; name = one.0; type = one.1 } ∷ type_heads_from (k + 1) (p + 1) decls
 
 -- the heads from a declaration on, by what it declares
-next_head : (k p : ℕ) (decl : DeclForm) (decls : List DeclForm) →
+pub next_head : (k p : ℕ) (decl : DeclForm) (decls : List DeclForm) →
     type_heads_from k p (decl ∷ decls) ≡ heads_with k p (type_declared p decl) decls
 next_head k p (d.Enum x members) decls = refl
 next_head k p (d.Union x ctors) decls = refl

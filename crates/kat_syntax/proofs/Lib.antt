@@ -9,5 +9,6 @@ pub mod BothExpressions
 pub mod BothStatements
 pub mod BothNames
 pub mod BothTypings
+pub mod EarlierTypes
 pub mod Finding
 pub mod Heading

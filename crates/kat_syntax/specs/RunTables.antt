@@ -6,6 +6,7 @@ use Rattle.kat_ast.specs.declared.type_name.Param.{Param}
 use Rattle.kat_ast.specs.declared.stm.Stm.{Stm}
 use Rattle.kat_syntax.specs.Tables.{Name, Function, function_at, step_function_of}
 use Rattle.kat_syntax.specs.FirstTypeFault.{IsTyped}
+use Rattle.kat_syntax.specs.Modes.{IsModed}
 use Rattle.kat_syntax.specs.Runnable.{IsRunnable}
 use Rattle.kat_syntax.specs.Cycle.{register_names}
 
@@ -19,10 +20,11 @@ pub record IsStep (decls : List DeclForm) (step : ℕ) : Type 0 where
   pub there : IsSome (declared_at decls step)
   pub number : step < 2 ^ 32
 
--- the specification is typed and can be run, its registers' names stand in the table and in the list, and its
--- step function is declared at this number
+-- the specification is typed, moded and can be run, its registers' names stand in the table and in
+-- the list, and its step function is declared at this number
 pub record HasTables (spec : Spec) (registers listed : List Name) (step : ℕ) : Type 0 where
   pub typed : IsTyped spec
+  pub moded : IsModed spec
   pub runnable : IsRunnable spec
   pub names : registers ≡ register_names spec.decls
   pub list : listed ≡ register_names spec.decls

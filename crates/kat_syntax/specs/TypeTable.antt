@@ -1,11 +1,13 @@
 -- The table of declared types: the names of their members, constructors and fields, with the types
 -- of constructors and fields.
-use Rattle.std.specs.Prelude.{◌≡◌, ℕ, ◌+◌, List, [], ◌∷◌, map, Option, None, Some, unwrap_or}
+use Rattle.std.specs.Prelude.{◌≡◌, ℕ, ◌+◌, ◌&&◌, Bool, true, false, nat_lt, List, [], ◌∷◌, map, slice_get, Option, None, Some, unwrap_or}
+use Rattle.std.specs.List.{AllByRecursion}
 use Rattle.kat_value.specs.declared.types.Field.{Field}
 use Rattle.kat_value.specs.declared.types.Ty.{Ty}
 use Rattle.kat_value.specs.declared.types.Ty.TheVariants as ty
 use Rattle.kat_value.specs.declared.types.TypeDecl.{TypeDecl}
 use Rattle.kat_value.specs.declared.types.TypeDecl.TheVariants as type
+use Rattle.kat_value.specs.Widths.{is_width}
 use Rattle.kat_ast.specs.declared.type_name.TypeName.{TypeName}
 use Rattle.kat_ast.specs.declared.type_name.Param.{Param}
 use Rattle.kat_ast.specs.declared.decl.DeclForm.{DeclForm}
@@ -56,3 +58,39 @@ types_of_decls decls = types_from decls 0 decls
 pub record HasTypes (spec : Spec) (types : List TypeDecl) : Type 0 where
   pub typed : IsTyped spec
   pub table : types ≡ types_of_decls spec.decls
+
+-- whether a declared type is an enum
+abbrev pub is_enum : Option TypeDecl → Bool
+is_enum (Some (type.Enum x members)) = true
+is_enum _ = false
+
+-- whether a declared type is a union
+abbrev pub is_union : Option TypeDecl → Bool
+is_union (Some (type.Union x ctors)) = true
+is_union _ = false
+
+-- whether a declared type is a record type
+abbrev pub is_record : Option TypeDecl → Bool
+is_record (Some (type.Rec x fields)) = true
+is_record _ = false
+
+-- whether a type may stand in the declared type at this position: bits have a width of 1 to 64, and
+-- an enum, a union or a record type is declared as such at an earlier position
+abbrev pub may_stand_in : List TypeDecl → ℕ → Ty → Bool
+may_stand_in types p ty.Unit = true
+may_stand_in types p ty.Bool = true
+may_stand_in types p (ty.Bits w) = is_width w
+may_stand_in types p (ty.Enum q) = nat_lt q p && is_enum (slice_get types q)
+may_stand_in types p (ty.Union q) = nat_lt q p && is_union (slice_get types q)
+may_stand_in types p (ty.Rec q) = nat_lt q p && is_record (slice_get types q)
+
+-- the constructors of a union with their payloads, or the fields of a record type
+abbrev pub parts_of_type : TypeDecl → List Field
+parts_of_type (type.Enum x members) = []
+parts_of_type (type.Union x ctors) = ctors
+parts_of_type (type.Rec x fields) = fields
+
+-- each type names earlier ones alone
+abbrev pub NamesEarlierTypes : List TypeDecl → Type 0
+NamesEarlierTypes types = (p : ℕ) (one : TypeDecl) → slice_get types p ≡ Some one →
+    AllByRecursion (λ (part : Field). may_stand_in types p part.ty ≡ true) (parts_of_type one)

@@ -5,6 +5,7 @@ ghost use Rattle.std.specs.Prelude.{◌≡◌, true, MatchOption};
 ghost use Rattle.kat_ast.specs.Spec.{Spec};
 ghost use Rattle.kat_syntax.specs.MeaningByParts.{LetByParts, IfByParts, PartsAreCounted};
 ghost use Rattle.kat_syntax.specs.FirstForm.{are_first_decls};
+ghost use Rattle.kat_syntax.specs.TypeTable.{NamesEarlierTypes, types_of_decls};
 ghost use Rattle.kat_syntax.specs.FirstTypeFault.{IsTyped, IsFirstTypeFault, first_type_fault};
 ghost use Rattle.kat_syntax.specs.Runnable.{IsTypedAsFirstForm, IsRunnable, HasCleanDecls, HasDistinctRegisters, HasStepFunction};
 
@@ -38,4 +39,10 @@ pub fn first_faults_are_least()
 pub fn typed_first_forms_can_be_run()
     ensures { (spec : Spec) →
         IsTyped spec → are_first_decls spec.decls ≡ true → IsRunnable spec }
+{}
+
+/// In the table of types of a typed specification each constructor's payload and each field is unit,
+/// bool, bits of a width from 1 to 64, or an enum, a union or a record type that stands earlier.
+pub fn types_name_earlier_ones()
+    ensures { (spec : Spec) → IsTyped spec → NamesEarlierTypes (types_of_decls spec.decls) }
 {}

@@ -9,6 +9,7 @@ mod declared_types;
 mod forms;
 mod laws;
 mod limits;
+mod moded;
 mod named;
 mod runnable;
 mod tables;
@@ -25,9 +26,10 @@ pub use kat_ast::{
 };
 pub use laws::{
     first_faults_are_least, statements_do_their_parts, typed_first_forms_can_be_run,
-    typed_specifications_have_tables,
+    typed_specifications_have_tables, types_name_earlier_ones,
 };
 pub use limits::MOST_DECLARATIONS;
+pub use moded::Moded;
 pub use named::Named;
 pub use runnable::{Runnable, StepFunction};
 pub use type_rule::TypeRule;

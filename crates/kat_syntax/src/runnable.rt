@@ -6,12 +6,13 @@ ghost use Rattle.kat_ast.specs.Statements.{trees_of_stm};
 ghost use Rattle.kat_ast.specs.Limits.{decl_trees_bound};
 ghost use Rattle.kat_syntax.specs.FirstForm.{is_first_stm, are_first_decls};
 ghost use Rattle.kat_syntax.specs.FirstTypeFault.{IsTyped};
+ghost use Rattle.kat_syntax.specs.Modes.{IsModed};
 ghost use Rattle.kat_syntax.specs.Runnable.{IsRunnable};
 ghost use Rattle.kat_syntax.specs.Cycle.{register_names};
 ghost use Rattle.kat_syntax.specs.RunTables.{IsStepFunction};
 
-use crate::checked::Checked;
 use crate::laws::typed_first_forms_can_be_run;
+use crate::moded::Moded;
 use crate::tables::{register_list, register_table, step_declaration};
 use kat_ast::{DeclForm, Spec, Stm, count_params, count_type, places_are_of_the_tree};
 use kat_names::Table;
@@ -21,8 +22,8 @@ use std::alloc::{AllocError, Global};
 use std::marker::Model;
 
 /// A specification whose cycles can be run: its declarations are of the forms that a machine can be
-/// run of, and no tree has a fault of typing. The table and the list of its registers' names and
-/// the number of its step function's declaration stand beside it, so that no cycle looks for them.
+/// run of, and it is typed and moded. The table and the list of its registers' names and the number
+/// of its step function's declaration stand beside it, so that no cycle looks for them.
 #[derive(Drop)]
 pub struct Runnable {
     spec: Spec,
@@ -50,19 +51,20 @@ impl Model for Runnable {
 }
 
 impl Runnable {
-    /// A typed specification, all of whose declarations are of forms that can be run, with its
-    /// tables.
-    pub fn new(alloc: Global, checked: Checked) -> Result<Runnable, AllocError>
-        requires { are_first_decls checked.decls ≡ true }
-        ensures { IfOk result (λ runnable. runnable ≡ checked) }
+    /// A typed and moded specification, all of whose declarations are of forms that can be run,
+    /// with its tables.
+    pub fn new(alloc: Global, moded: Moded) -> Result<Runnable, AllocError>
+        requires { are_first_decls moded.decls ≡ true }
+        ensures { IfOk result (λ runnable. runnable ≡ moded) }
     {
         typed_first_forms_can_be_run();
-        Runnable::with_tables(alloc, checked.into_spec())
+        Runnable::with_tables(alloc, moded.into_checked().into_spec())
     }
 
-    /// A typed specification that can be run, with its tables.
+    /// A typed and moded specification that can be run, with its tables.
     fn with_tables(alloc: Global, spec: Spec) -> Result<Runnable, AllocError>
         requires typed { IsTyped spec }
+        requires moded { IsModed spec }
         requires runnable { IsRunnable spec }
         ensures { IfOk result (λ runnable. runnable ≡ spec) }
     {
@@ -82,6 +84,7 @@ impl Runnable {
     pub fn spec(&self) -> &Spec
         ensures spec { result.now ≡ self.now }
         ensures typed { IsTyped self.now }
+        ensures moded { IsModed self.now }
     {
         &self.spec
     }

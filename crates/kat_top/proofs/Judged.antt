@@ -1,6 +1,6 @@
 -- What bytes are read as is one thing, the fault with which they are refused is one, and they are
 -- not both.
-use Rattle.std.proofs.Common.{◌≡◌, ◌⊎◌, ℕ, true, false, inl, inr, List, Option, Some, Ok, Err, refl, ap, sym, subst, ◌∙◌}
+use Rattle.std.proofs.Common.{◌≡◌, ◌⊎◌, ℕ, true, inl, inr, List, Option, Some, Ok, Err, refl, ap, sym, subst, ◌∙◌}
 use Rattle.kat_tree.specs.declared.error.TreeError.{TreeError}
 use Rattle.kat_tree.specs.declared.error.TreeError.TheVariants as error
 use Rattle.kat_tree.specs.declared.tree.Tree.{Tree as TextTree}
@@ -11,6 +11,7 @@ use Rattle.kat_ast.specs.Specifications.{Reads}
 use Rattle.std.specs.Prelude.{MatchOption}
 use Rattle.kat_syntax.specs.FirstForm.{are_first_decls}
 use Rattle.kat_syntax.specs.FirstTypeFault.{TypeFault, IsTyped, first_type_fault}
+use Rattle.kat_syntax.specs.Modes.{ModeFault}
 use Rattle.kat_shapes.specs.declared.misfit.Misfit.{Misfit}
 use Rattle.kat_forms.specs.Reading.{IsFirstMisfit}
 use Rattle.kat_image.specs.Image.{IsImageOf}
@@ -22,7 +23,7 @@ use Rattle.kat_top.specs.declared.status.Status.{Status}
 use Rattle.kat_top.specs.declared.status.Status.TheVariants as status
 use Rattle.kat_top.specs.FileLaws.{FileLaws}
 use Rattle.kat_top.specs.Statuses.{status_of_fault}
-use Rattle.kat_top.specs.Inputs.{Kind, ASpec, AChecked, AMachine, AnImage, Thing, TheSpec, TheChecked, TheMachine, TheState, machine_of, tree_error, IsNoTree, IsNoSpec, IsIllTyped, IsIllTypedAs, IsNotBuilt, IsReadAs, IsRefusedAs}
+use Rattle.kat_top.specs.Inputs.{Kind, ASpec, AModed, AMachine, AnImage, Thing, TheSpec, TheModed, TheMachine, TheState, machine_of, tree_error, IsTypedAndModed, IsNoTree, IsNoSpec, IsNotTyped, IsNotModed, IsIllTyped, IsIllTypedAs, IsNotBuilt, IsReadAs, IsRefusedAs}
 
 -- the fault of an error of a tree
 abbrev pub fault_of_error : TreeError → Fault
@@ -58,14 +59,18 @@ no_tree_status bytes said x = ap status_of_fault x.said_is
 no_spec_status : (bytes : List ℕ) (said : Fault) → IsNoSpec bytes said → status_of_fault said ≡ status.Form
 no_spec_status bytes said x = ap status_of_fault x.said_is
 
+ill_typed_status : (spec : Spec) (said : Fault) → IsNotTyped spec said ⊎ IsNotModed spec said → status_of_fault said ≡ status.IllTyped
+ill_typed_status spec said (inl x) = ap status_of_fault x.said_is
+ill_typed_status spec said (inr x) = ap status_of_fault x.said_is
+
 -- a refusal by the text has one of them
 pub refused_status : (earlier : List Thing) (kind : Kind) (bytes : List ℕ) (said : Fault) → IsRefusedAs earlier kind bytes said → IsOfText (status_of_fault said)
 refused_status earlier ASpec bytes said (inl x) = form_status said (no_tree_status bytes said x)
 refused_status earlier ASpec bytes said (inr x) = form_status said (no_spec_status bytes said x)
-refused_status earlier AChecked bytes said (inl x) = subst IsOfText (sym (ap status_of_fault x.said_is)) tt
-refused_status earlier AChecked bytes said (inr (inl x)) = form_status said (no_tree_status bytes said x)
-refused_status earlier AChecked bytes said (inr (inr x)) = form_status said (no_spec_status bytes said x)
-refused_status earlier AMachine bytes said (inl x) = subst IsOfText (sym (ap status_of_fault x.said_is)) tt
+refused_status earlier AModed bytes said (inl x) = subst IsOfText (sym (ill_typed_status x.spec said x.first)) tt
+refused_status earlier AModed bytes said (inr (inl x)) = form_status said (no_tree_status bytes said x)
+refused_status earlier AModed bytes said (inr (inr x)) = form_status said (no_spec_status bytes said x)
+refused_status earlier AMachine bytes said (inl x) = subst IsOfText (sym (ill_typed_status x.spec said x.first)) tt
 refused_status earlier AMachine bytes said (inr (inl x)) = form_status said (ap status_of_fault x.said_is)
 refused_status earlier AMachine bytes said (inr (inr (inl x))) = form_status said (no_tree_status bytes said x)
 refused_status earlier AMachine bytes said (inr (inr (inr x))) = form_status said (no_spec_status bytes said x)
@@ -109,23 +114,37 @@ module _ (laws : FileLaws) where
   untyped spec found first =
       subst (λ o. MatchOption o (IsTyped spec) (λ found. IsTyped spec → ⊥)) first (laws.typed_or_not spec)
 
+  -- what has a first fault of typing or of modes is not typed and moded
+  failing : (spec : Spec) (said : Fault) → IsNotTyped spec said ⊎ IsNotModed spec said → IsTypedAndModed spec → ⊥
+  failing spec said (inl x) passes = untyped spec x.found x.first passes.typed
+  failing spec said (inr x) passes = let none = passes.moded in let some = x.first in absurd (cc)
+
+  -- a specification has one such fault
+  one_first : (spec : Spec) (a b : Fault) → IsNotTyped spec a ⊎ IsNotModed spec a → IsNotTyped spec b ⊎ IsNotModed spec b → a ≡ b
+  one_first spec a b (inl x) (inl y) =
+      let found : x.found ≡ y.found = let e = x.first in let f = y.first in cc in
+      x.said_is ∙ ap (λ (f : TypeFault). fault.IllTyped f.decl f.tree f.rule) found ∙ sym y.said_is
+  one_first spec a b (inl x) (inr y) = absurd (untyped spec x.found x.first y.typed)
+  one_first spec a b (inr x) (inl y) = absurd (untyped spec y.found y.first x.typed)
+  one_first spec a b (inr x) (inr y) =
+      let found : x.found ≡ y.found = let e = x.first in let f = y.first in cc in
+      x.said_is ∙ ap (λ (f : ModeFault). fault.IllModed f.decl f.name) found ∙ sym y.said_is
+
   ill_typed_once : (bytes : List ℕ) (a b : Fault) → IsIllTyped bytes a → IsIllTyped bytes b → a ≡ b
   ill_typed_once bytes a b x y =
       let same = laws.one_spec bytes y.spec x.spec y.reads x.reads in
-      let first = subst (λ s. first_type_fault s ≡ Some y.found) same y.first in
-      let found : x.found ≡ y.found = let e = x.first in cc in
-      x.said_is ∙ ap (λ (f : TypeFault). fault.IllTyped f.decl f.tree f.rule) found ∙ sym y.said_is
+      one_first x.spec a b x.first (subst (λ s. IsNotTyped s b ⊎ IsNotModed s b) same y.first)
 
-  ill_typed_read : (bytes : List ℕ) (spec : Spec) (said : Fault) → Reads bytes spec → IsTyped spec → IsIllTyped bytes said → ⊥
-  ill_typed_read bytes spec said reads typed x =
-      untyped x.spec x.found x.first (subst IsTyped (laws.one_spec bytes spec x.spec reads x.reads) typed)
+  ill_typed_read : (bytes : List ℕ) (spec : Spec) (said : Fault) → Reads bytes spec → IsTypedAndModed spec → IsIllTyped bytes said → ⊥
+  ill_typed_read bytes spec said reads passes x =
+      failing x.spec said x.first (subst IsTypedAndModed (laws.one_spec bytes spec x.spec reads x.reads) passes)
 
-  -- bytes of a typed specification are not those of one that is not
-  typed_read : (bytes : List ℕ) (spec : Spec) → Reads bytes spec → IsTyped spec → (other : Spec) × Reads bytes other × (IsTyped other → ⊥) → ⊥
-  typed_read bytes spec reads typed (other, q, none) = none (subst IsTyped (laws.one_spec bytes spec other reads q) typed)
+  -- bytes of a typed and moded specification are not those of one that is not
+  passing_read : (bytes : List ℕ) (spec : Spec) → Reads bytes spec → IsTypedAndModed spec → (other : Spec) × Reads bytes other × (IsTypedAndModed other → ⊥) → ⊥
+  passing_read bytes spec reads passes (other, q, none) = none (subst IsTypedAndModed (laws.one_spec bytes spec other reads q) passes)
 
-  -- a refusal is one of typing, or it is another and the text is not one that has to be typed and is
-  -- not
+  -- a refusal is one of typing or modes, or it is another and the text is not one that has to be
+  -- typed and moded and is not
   abbrev pub IsRefusal : Kind → List ℕ → Fault → Type 0
   IsRefusal kind bytes said =
       ((status_of_fault said ≡ status.IllTyped) × IsIllTypedAs kind bytes)
@@ -134,24 +153,24 @@ module _ (laws : FileLaws) where
   pub refused_by : (earlier : List Thing) (kind : Kind) (bytes : List ℕ) (said : Fault) → IsRefusedAs earlier kind bytes said → IsRefusal kind bytes said
   refused_by earlier ASpec bytes said (inl x) = inr (no_tree_status bytes said x, λ u. u)
   refused_by earlier ASpec bytes said (inr x) = inr (no_spec_status bytes said x, λ u. u)
-  refused_by earlier AChecked bytes said (inl x) = inl (ap status_of_fault x.said_is, (x.spec, x.reads, untyped x.spec x.found x.first))
-  refused_by earlier AChecked bytes said (inr (inl x)) = inr (no_tree_status bytes said x, λ u. read_or_no_tree bytes u.0 said u.1 x)
-  refused_by earlier AChecked bytes said (inr (inr x)) = inr (no_spec_status bytes said x, λ u. read_or_no_spec bytes u.0 said u.1 x)
-  refused_by earlier AMachine bytes said (inl x) = inl (ap status_of_fault x.said_is, (x.spec, x.reads, untyped x.spec x.found x.first))
-  refused_by earlier AMachine bytes said (inr (inl x)) = inr (ap status_of_fault x.said_is, λ u. typed_read bytes x.spec x.reads x.typed u)
+  refused_by earlier AModed bytes said (inl x) = inl (ill_typed_status x.spec said x.first, (x.spec, x.reads, failing x.spec said x.first))
+  refused_by earlier AModed bytes said (inr (inl x)) = inr (no_tree_status bytes said x, λ u. read_or_no_tree bytes u.0 said u.1 x)
+  refused_by earlier AModed bytes said (inr (inr x)) = inr (no_spec_status bytes said x, λ u. read_or_no_spec bytes u.0 said u.1 x)
+  refused_by earlier AMachine bytes said (inl x) = inl (ill_typed_status x.spec said x.first, (x.spec, x.reads, failing x.spec said x.first))
+  refused_by earlier AMachine bytes said (inr (inl x)) = inr (ap status_of_fault x.said_is, λ u. passing_read bytes x.spec x.reads x.passes u)
   refused_by earlier AMachine bytes said (inr (inr (inl x))) = inr (no_tree_status bytes said x, λ u. read_or_no_tree bytes u.0 said u.1 x)
   refused_by earlier AMachine bytes said (inr (inr (inr x))) = inr (no_spec_status bytes said x, λ u. read_or_no_spec bytes u.0 said u.1 x)
   refused_by earlier AnImage bytes said x = inr (ap status_of_fault x.said_is, λ u. u)
 
   pub not_untyped : (earlier : List Thing) (kind : Kind) (bytes : List ℕ) (thing : Thing) → IsReadAs earlier kind bytes thing → IsIllTypedAs kind bytes → ⊥
   not_untyped earlier ASpec bytes thing x u = u
-  not_untyped earlier AChecked bytes thing (s, x, r) u = typed_read bytes s r.reads r.typed u
-  not_untyped earlier AMachine bytes thing (s, x, r) u = typed_read bytes s r.reads r.typed u
+  not_untyped earlier AModed bytes thing (s, x, r) u = passing_read bytes s r.reads r.passes u
+  not_untyped earlier AMachine bytes thing (s, x, r) u = passing_read bytes s r.reads r.passes u
   not_untyped earlier AnImage bytes thing x u = u
 
   pub one_thing : (earlier : List Thing) (kind : Kind) (bytes : List ℕ) (a b : Thing) → IsReadAs earlier kind bytes a → IsReadAs earlier kind bytes b → a ≡ b
   one_thing earlier ASpec bytes a b (s, x, r) (t, y, q) = x ∙ ap TheSpec (laws.one_spec bytes s t r q) ∙ sym y
-  one_thing earlier AChecked bytes a b (s, x, r) (t, y, q) = x ∙ ap TheChecked (laws.one_spec bytes s t r.reads q.reads) ∙ sym y
+  one_thing earlier AModed bytes a b (s, x, r) (t, y, q) = x ∙ ap TheModed (laws.one_spec bytes s t r.reads q.reads) ∙ sym y
   one_thing earlier AMachine bytes a b (s, x, r) (t, y, q) = x ∙ ap TheMachine (laws.one_spec bytes s t r.reads q.reads) ∙ sym y
   one_thing earlier AnImage bytes a b (m, s, f, x, r) (n, t, g, y, q) =
       let e = same_machine (machine_of earlier) n m g f in
@@ -174,20 +193,20 @@ module _ (laws : FileLaws) where
   one_fault earlier ASpec bytes a b (inl x) (inr y) = absurd (no_tree_no_spec bytes a b x y)
   one_fault earlier ASpec bytes a b (inr x) (inl y) = absurd (no_tree_no_spec bytes b a y x)
   one_fault earlier ASpec bytes a b (inr x) (inr y) = no_spec_once bytes a b x y
-  one_fault earlier AChecked bytes a b (inl x) (inl y) = ill_typed_once bytes a b x y
-  one_fault earlier AChecked bytes a b (inl x) (inr (inl y)) = absurd (read_or_no_tree bytes x.spec b x.reads y)
-  one_fault earlier AChecked bytes a b (inl x) (inr (inr y)) = absurd (read_or_no_spec bytes x.spec b x.reads y)
-  one_fault earlier AChecked bytes a b (inr (inl x)) (inl y) = absurd (read_or_no_tree bytes y.spec a y.reads x)
-  one_fault earlier AChecked bytes a b (inr (inr x)) (inl y) = absurd (read_or_no_spec bytes y.spec a y.reads x)
-  one_fault earlier AChecked bytes a b (inr (inl x)) (inr (inl y)) = no_tree_once bytes a b x y
-  one_fault earlier AChecked bytes a b (inr (inl x)) (inr (inr y)) = absurd (no_tree_no_spec bytes a b x y)
-  one_fault earlier AChecked bytes a b (inr (inr x)) (inr (inl y)) = absurd (no_tree_no_spec bytes b a y x)
-  one_fault earlier AChecked bytes a b (inr (inr x)) (inr (inr y)) = no_spec_once bytes a b x y
+  one_fault earlier AModed bytes a b (inl x) (inl y) = ill_typed_once bytes a b x y
+  one_fault earlier AModed bytes a b (inl x) (inr (inl y)) = absurd (read_or_no_tree bytes x.spec b x.reads y)
+  one_fault earlier AModed bytes a b (inl x) (inr (inr y)) = absurd (read_or_no_spec bytes x.spec b x.reads y)
+  one_fault earlier AModed bytes a b (inr (inl x)) (inl y) = absurd (read_or_no_tree bytes y.spec a y.reads x)
+  one_fault earlier AModed bytes a b (inr (inr x)) (inl y) = absurd (read_or_no_spec bytes y.spec a y.reads x)
+  one_fault earlier AModed bytes a b (inr (inl x)) (inr (inl y)) = no_tree_once bytes a b x y
+  one_fault earlier AModed bytes a b (inr (inl x)) (inr (inr y)) = absurd (no_tree_no_spec bytes a b x y)
+  one_fault earlier AModed bytes a b (inr (inr x)) (inr (inl y)) = absurd (no_tree_no_spec bytes b a y x)
+  one_fault earlier AModed bytes a b (inr (inr x)) (inr (inr y)) = no_spec_once bytes a b x y
   one_fault earlier AMachine bytes a b (inl x) (inl y) = ill_typed_once bytes a b x y
-  one_fault earlier AMachine bytes a b (inl x) (inr (inl y)) = absurd (ill_typed_read bytes y.spec a y.reads y.typed x)
+  one_fault earlier AMachine bytes a b (inl x) (inr (inl y)) = absurd (ill_typed_read bytes y.spec a y.reads y.passes x)
   one_fault earlier AMachine bytes a b (inl x) (inr (inr (inl y))) = absurd (read_or_no_tree bytes x.spec b x.reads y)
   one_fault earlier AMachine bytes a b (inl x) (inr (inr (inr y))) = absurd (read_or_no_spec bytes x.spec b x.reads y)
-  one_fault earlier AMachine bytes a b (inr (inl x)) (inl y) = absurd (ill_typed_read bytes x.spec b x.reads x.typed y)
+  one_fault earlier AMachine bytes a b (inr (inl x)) (inl y) = absurd (ill_typed_read bytes x.spec b x.reads x.passes y)
   one_fault earlier AMachine bytes a b (inr (inr (inl x))) (inl y) = absurd (read_or_no_tree bytes y.spec a y.reads x)
   one_fault earlier AMachine bytes a b (inr (inr (inr x))) (inl y) = absurd (read_or_no_spec bytes y.spec a y.reads x)
   one_fault earlier AMachine bytes a b (inr x) (inr y) = unbuilt_once bytes a b x y
@@ -196,10 +215,10 @@ module _ (laws : FileLaws) where
   pub not_both : (earlier : List Thing) (kind : Kind) (bytes : List ℕ) (thing : Thing) (said : Fault) → IsReadAs earlier kind bytes thing → IsRefusedAs earlier kind bytes said → ⊥
   not_both earlier ASpec bytes thing said (s, x, r) (inl y) = read_or_no_tree bytes s said r y
   not_both earlier ASpec bytes thing said (s, x, r) (inr y) = read_or_no_spec bytes s said r y
-  not_both earlier AChecked bytes thing said (s, x, r) (inl y) = ill_typed_read bytes s said r.reads r.typed y
-  not_both earlier AChecked bytes thing said (s, x, r) (inr (inl y)) = read_or_no_tree bytes s said r.reads y
-  not_both earlier AChecked bytes thing said (s, x, r) (inr (inr y)) = read_or_no_spec bytes s said r.reads y
-  not_both earlier AMachine bytes thing said (s, x, r) (inl y) = ill_typed_read bytes s said r.reads r.typed y
+  not_both earlier AModed bytes thing said (s, x, r) (inl y) = ill_typed_read bytes s said r.reads r.passes y
+  not_both earlier AModed bytes thing said (s, x, r) (inr (inl y)) = read_or_no_tree bytes s said r.reads y
+  not_both earlier AModed bytes thing said (s, x, r) (inr (inr y)) = read_or_no_spec bytes s said r.reads y
+  not_both earlier AMachine bytes thing said (s, x, r) (inl y) = ill_typed_read bytes s said r.reads r.passes y
   not_both earlier AMachine bytes thing said (s, x, r) (inr (inl y)) =
       let same = laws.one_spec bytes s y.spec r.reads y.reads in
       let built = subst (λ t. are_first_decls t.decls ≡ true) same r.built in

@@ -18,7 +18,7 @@ abbrev pub CanBeRun : Type 0
 CanBeRun = (spec : Spec) → IsTyped spec → are_first_decls spec.decls ≡ true → IsRunnable spec
 
 machine_runs : CanBeRun → (spec : Spec) (bytes : List ℕ) → IsMachine bytes spec → IsRunnable spec
-machine_runs runs spec bytes machine = runs spec machine.typed machine.built
+machine_runs runs spec bytes machine = runs spec machine.passes.typed machine.built
 
 can_run : CanBeRun → (spec : Spec) (run : Run) → IsToldRun spec run → CanRun spec
 can_run runs spec run told = record { runnable = machine_runs runs spec told.text told.machine; written = told.machine.reads.described.kept.decls }

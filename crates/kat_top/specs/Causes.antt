@@ -36,15 +36,15 @@ LongComes job told given =
     let long = HasLong told (inputs_of job) in
     ComesExactly (Tells job told) status.TooLong given long long
 
--- the bytes of a file that is asked for stand for a specification that is not typed where it has
--- to be
+-- the bytes of a file that is asked for stand for a specification that is not typed and moded where
+-- it has to be
 abbrev pub IllTypedComes : Option Job → Told → Status → Type 0
 IllTypedComes job told given =
     let untyped = HasUntyped told (inputs_of job) in
     ComesExactly (Tells job told) status.IllTyped given untyped untyped
 
 -- the bytes of a file that is asked for are read as nothing that the job can treat, for another
--- reason than typing
+-- reason than typing and modes
 abbrev pub FormComes : Option Job → Told → Status → Type 0
 FormComes job told given =
     let nothing = HasNothing told (inputs_of job) in

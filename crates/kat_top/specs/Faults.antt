@@ -59,6 +59,10 @@ abbrev pub type_words : ℕ → ℕ → TypeRule → List ℕ
 type_words decl tree rule =
     codes "type" ++ part (decimal decl) ++ part (decimal tree) ++ part (decimal (code_of rule))
 
+-- `mode DECL NAME`
+abbrev pub mode_words : ℕ → List ℕ → List ℕ
+mode_words decl name = codes "mode" ++ part (decimal decl) ++ part name
+
 -- `out CYCLE`
 abbrev pub out_words : ℕ → List ℕ
 out_words cycle = codes "out" ++ part (decimal cycle)
@@ -77,6 +81,7 @@ words_of_fault (fault.Tree kind offset) = tree_words kind offset
 words_of_fault (fault.Form place wanted) = form_words place wanted
 words_of_fault fault.Unbuilt = codes "unbuilt"
 words_of_fault (fault.IllTyped decl tree rule) = type_words decl tree rule
+words_of_fault (fault.IllModed decl name) = mode_words decl name
 words_of_fault (fault.Out cycle) = out_words cycle
 words_of_fault (fault.Failed cycle site) = failed_words cycle site
 

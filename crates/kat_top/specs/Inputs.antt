@@ -11,6 +11,7 @@ use Rattle.kat_ast.specs.Specifications.{Reads}
 use Rattle.kat_syntax.specs.Machine.{MachineState}
 use Rattle.kat_syntax.specs.FirstForm.{are_first_decls}
 use Rattle.kat_syntax.specs.FirstTypeFault.{TypeFault, IsTyped, first_type_fault}
+use Rattle.kat_syntax.specs.Modes.{ModeFault, IsModed, first_mode_fault}
 use Rattle.kat_forms.specs.Reading.{IsFirstMisfit}
 use Rattle.kat_image.specs.Image.{IsImageOf}
 use Rattle.kat_top.specs.declared.fault.Fault.{Fault}
@@ -22,11 +23,11 @@ use Rattle.kat_top.specs.declared.fault.TreeKind.TheVariants.{NotText, Unclosed,
 abbrev pub Name : Type 0
 Name = List ℕ
 
--- what a file is to be: a specification, a typed one, a machine that can be run, or an image of the
--- machine before it
+-- what a file is to be: a specification, one that is typed and moded, a machine that can be run, or
+-- an image of the machine before it
 pub data Kind : Type 0 where
   ASpec : Kind
-  AChecked : Kind
+  AModed : Kind
   AMachine : Kind
   AnImage : Kind
 
@@ -38,7 +39,7 @@ pub record Input : Type 0 where
 -- what a file was read as
 pub data Thing : Type 0 where
   TheSpec : (spec : Spec) → Thing
-  TheChecked : (spec : Spec) → Thing
+  TheModed : (spec : Spec) → Thing
   TheMachine : (machine : Spec) → Thing
   TheState : (state : MachineState) → Thing
 
@@ -48,22 +49,27 @@ machine_of [] = None
 machine_of (TheMachine machine ∷ things) = Some machine
 machine_of (thing ∷ things) = machine_of things
 
--- bytes stand for a typed specification
-pub record IsChecked (bytes : List ℕ) (spec : Spec) : Type 0 where
-  pub reads : Reads bytes spec
+-- a specification is typed and moded
+pub record IsTypedAndModed (spec : Spec) : Type 0 where
   pub typed : IsTyped spec
+  pub moded : IsModed spec
 
--- bytes stand for a machine: for a typed specification of forms that can be run
+-- bytes stand for a specification that is typed and moded
+pub record IsModedText (bytes : List ℕ) (spec : Spec) : Type 0 where
+  pub reads : Reads bytes spec
+  pub passes : IsTypedAndModed spec
+
+-- bytes stand for a machine: for a specification, typed and moded, of forms that can be run
 pub record IsMachine (bytes : List ℕ) (machine : Spec) : Type 0 where
   pub reads : Reads bytes machine
-  pub typed : IsTyped machine
+  pub passes : IsTypedAndModed machine
   pub built : are_first_decls machine.decls ≡ true
 
 -- what bytes are read as, behind what was read before them: a line for each kind
 abbrev pub IsReadAs : List Thing → Kind → List ℕ → Thing → Type 0
 IsReadAs earlier ASpec bytes thing = (spec : Spec) × (thing ≡ TheSpec spec) × Reads bytes spec
-IsReadAs earlier AChecked bytes thing =
-    (spec : Spec) × (thing ≡ TheChecked spec) × IsChecked bytes spec
+IsReadAs earlier AModed bytes thing =
+    (spec : Spec) × (thing ≡ TheModed spec) × IsModedText bytes spec
 IsReadAs earlier AMachine bytes thing =
     (machine : Spec) × (thing ≡ TheMachine machine) × IsMachine bytes machine
 IsReadAs earlier AnImage bytes thing =
@@ -94,20 +100,31 @@ pub record IsNoSpec (bytes : List ℕ) (said : Fault) : Type 0 where
   pub spelled : Spells bytes tree
   pub first : IsFirstMisfit tree (record { place = place; wanted = wanted })
 
--- the bytes stand for a specification that is not typed, and the fault is its first one
-pub record IsIllTyped (bytes : List ℕ) (said : Fault) : Type 0 where
-  pub spec : Spec
+-- a specification is not typed, and the fault is its first one of typing
+pub record IsNotTyped (spec : Spec) (said : Fault) : Type 0 where
   pub found : TypeFault
   pub said_is : said ≡ fault.IllTyped found.decl found.tree found.rule
-  pub reads : Reads bytes spec
   pub first : first_type_fault spec ≡ Some found
 
--- the bytes stand for a typed specification with forms that can not be run yet
+-- a specification is typed and not moded, and the fault is its first one of modes
+pub record IsNotModed (spec : Spec) (said : Fault) : Type 0 where
+  pub found : ModeFault
+  pub said_is : said ≡ fault.IllModed found.decl found.name
+  pub typed : IsTyped spec
+  pub first : first_mode_fault spec ≡ Some found
+
+-- the bytes stand for a specification that is not typed, or typed and not moded
+pub record IsIllTyped (bytes : List ℕ) (said : Fault) : Type 0 where
+  pub spec : Spec
+  pub reads : Reads bytes spec
+  pub first : IsNotTyped spec said ⊎ IsNotModed spec said
+
+-- the bytes stand for a typed and moded specification with forms that can not be run yet
 pub record IsNotBuilt (bytes : List ℕ) (said : Fault) : Type 0 where
   pub spec : Spec
   pub said_is : said ≡ fault.Unbuilt
   pub reads : Reads bytes spec
-  pub typed : IsTyped spec
+  pub passes : IsTypedAndModed spec
   pub unbuilt : are_first_decls spec.decls ≡ false
 
 -- the bytes are no image of the machine before them
@@ -120,15 +137,16 @@ pub record IsNoImage (earlier : List Thing) (bytes : List ℕ) (said : Fault) : 
 -- the fault with which bytes are refused, behind what was read before them: a line for each kind
 abbrev pub IsRefusedAs : List Thing → Kind → List ℕ → Fault → Type 0
 IsRefusedAs earlier ASpec bytes said = IsNoTree bytes said ⊎ IsNoSpec bytes said
-IsRefusedAs earlier AChecked bytes said =
+IsRefusedAs earlier AModed bytes said =
     IsIllTyped bytes said ⊎ (IsNoTree bytes said ⊎ IsNoSpec bytes said)
 IsRefusedAs earlier AMachine bytes said =
     IsIllTyped bytes said
     ⊎ (IsNotBuilt bytes said ⊎ (IsNoTree bytes said ⊎ IsNoSpec bytes said))
 IsRefusedAs earlier AnImage bytes said = IsNoImage earlier bytes said
 
--- the bytes stand for a specification that has to be typed, as a file of this kind, and is not
+-- the bytes stand for a specification that has to be typed and moded, as a file of this kind, and
+-- is not
 abbrev pub IsIllTypedAs : Kind → List ℕ → Type 0
-IsIllTypedAs AChecked bytes = (spec : Spec) × Reads bytes spec × (IsTyped spec → ⊥)
-IsIllTypedAs AMachine bytes = (spec : Spec) × Reads bytes spec × (IsTyped spec → ⊥)
+IsIllTypedAs AModed bytes = (spec : Spec) × Reads bytes spec × (IsTypedAndModed spec → ⊥)
+IsIllTypedAs AMachine bytes = (spec : Spec) × Reads bytes spec × (IsTypedAndModed spec → ⊥)
 IsIllTypedAs _ bytes = ⊥

@@ -17,7 +17,7 @@ use Rattle.kat_top.specs.declared.status.Status.{Status}
 use Rattle.kat_top.specs.declared.status.Status.TheVariants as status
 use Rattle.kat_top.specs.Answers.{Answer, answer_of_fault}
 use Rattle.kat_top.specs.Faults.{part}
-use Rattle.kat_top.specs.Inputs.{Name, Kind, ASpec, AChecked, AMachine, AnImage, Input, Thing, TheSpec, TheChecked, TheMachine, TheState}
+use Rattle.kat_top.specs.Inputs.{Name, Kind, ASpec, AModed, AMachine, AnImage, Input, Thing, TheSpec, TheModed, TheMachine, TheState}
 use Rattle.kat_top.specs.Judging.{names_of}
 
 -- an input of this kind, by the name of its file
@@ -34,7 +34,7 @@ status_of_end (FailedIn cycle place) = status.Failed
 abbrev pub typed_text : Spec → List ℕ
 typed_text spec = codes "typed declarations" ++ part (decimal (length spec.decls)) ++ 10 ∷ []
 
--- that a specification is typed, and how many declarations it has
+-- that a specification is typed and moded, and how many declarations it has
 abbrev pub check_answer : Spec → Answer
 check_answer spec = record { status = status.Ok; text = typed_text spec }
 
@@ -60,7 +60,7 @@ is_built _ = false
 
 -- what a job asks for, in the order in which it is judged; nothing where the words ask for no job
 abbrev pub inputs_of : Option Job → List Input
-inputs_of (Some (Check spec)) = input AChecked spec ∷ []
+inputs_of (Some (Check spec)) = input AModed spec ∷ []
 inputs_of (Some (Print spec)) = input ASpec spec ∷ []
 inputs_of (Some (Run spec image cycles calls devices)) =
     input AMachine spec ∷ input AnImage image ∷ []
@@ -71,7 +71,7 @@ inputs_of _ = []
 abbrev pub Does : Option Job → List Thing → Answer → Type 0
 Does None taken answer = answer ≡ answer_of_fault fault.Usage
 Does (Some (Check name)) taken answer =
-    (spec : Spec) × (taken ≡ TheChecked spec ∷ []) × (answer ≡ check_answer spec)
+    (spec : Spec) × (taken ≡ TheModed spec ∷ []) × (answer ≡ check_answer spec)
 Does (Some (Print name)) taken answer =
     (spec : Spec) × (taken ≡ TheSpec spec ∷ []) × (answer ≡ print_answer spec)
 Does (Some (Run name image cycles calls [])) taken answer =

@@ -24,8 +24,8 @@ pub record IsRefused (told : Told) (earlier : List Thing) (input : Input) (fault
   pub few : length bytes ≤ most_bytes
   pub refuses : IsRefusedAs earlier input.kind bytes fault
 
--- they are told, at most as many as are read, and stand for a specification that is not typed
--- where it has to be
+-- they are told, at most as many as are read, and stand for a specification that is not typed and
+-- moded where it has to be
 pub record IsUntyped (told : Told) (earlier : List Thing) (input : Input) : Type 0 where
   pub bytes : List ℕ
   pub is_told : told input.name ≡ Some bytes
@@ -79,7 +79,7 @@ AreTold told earlier inputs = (name : Name) → IsAsked told earlier inputs name
 abbrev pub HasLong : Told → List Input → Type 0
 HasLong told inputs = Reaches told (AtNext (λ taken input. IsTooLong told input)) [] inputs
 
--- an input that is asked for is not typed where it has to be
+-- an input that is asked for is not typed and moded where it has to be
 abbrev pub HasUntyped : Told → List Input → Type 0
 HasUntyped told inputs = Reaches told (AtNext (λ taken input. IsUntyped told taken input)) [] inputs
 

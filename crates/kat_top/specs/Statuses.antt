@@ -31,5 +31,6 @@ status_of_fault (fault.Tree kind offset) = status.Form
 status_of_fault (fault.Form place wanted) = status.Form
 status_of_fault fault.Unbuilt = status.Form
 status_of_fault (fault.IllTyped decl tree rule) = status.IllTyped
+status_of_fault (fault.IllModed decl name) = status.IllTyped
 status_of_fault (fault.Out cycle) = status.Out
 status_of_fault (fault.Failed cycle site) = status.Failed

@@ -2,7 +2,7 @@
 
 ghost use Rattle.std.specs.Prelude.{◌≡◌, ◌++◌, IfOk, OnOk};
 ghost use Rattle.kat_top.specs.Faults.{fault_text_of, words_of_fault, word_of_kind, word_of_wanted};
-ghost use Rattle.kat_top.specs.Faults.{read_words, long_words, tree_words, form_words, type_words, out_words, failed_words};
+ghost use Rattle.kat_top.specs.Faults.{read_words, long_words, tree_words, form_words, type_words, mode_words, out_words, failed_words};
 
 use kat_forms::Wanted;
 use kat_syntax::{Place, TypeRule};
@@ -58,6 +58,12 @@ pub enum Fault {
         tree: u32,
         rule: TypeRule,
     },
+    /// A typed specification is not moded: in its first fault this name is used, or left, unbound,
+    /// in this declaration.
+    IllModed {
+        decl: u32,
+        name: Text,
+    },
     /// The cycle of this number made a call with none left.
     Out(u64),
     /// The cycle of this number failed, at this place.
@@ -89,6 +95,7 @@ fn push_words(line: &mut TextBuilder, fault: &Fault) -> Result<(), AllocError>
         Fault::Form { place, wanted } => push_form(line, *place, *wanted),
         Fault::Unbuilt => line.push_text("unbuilt"),
         Fault::IllTyped { decl, tree, rule } => push_type(line, *decl, *tree, *rule),
+        Fault::IllModed { decl, name } => push_mode(line, *decl, name.as_str()),
         Fault::Out(cycle) => push_out(line, *cycle),
         Fault::Failed { cycle, site } => push_failed(line, *cycle, *site),
     }
@@ -137,6 +144,15 @@ fn push_type(line: &mut TextBuilder, decl: u32, tree: u32, rule: TypeRule) -> Re
     line.push_decimal_part(u64::from(decl))?;
     line.push_decimal_part(u64::from(tree))?;
     line.push_decimal_part(u64::from(rule.code()))
+}
+
+/// `mode DECL NAME`
+fn push_mode(line: &mut TextBuilder, decl: u32, name: &str) -> Result<(), AllocError>
+    ensures { OnOk result (line.new ≡ line.old ++ mode_words decl name.now) }
+{
+    line.push_text("mode")?;
+    line.push_decimal_part(u64::from(decl))?;
+    line.push_part(name)
 }
 
 /// `out CYCLE`

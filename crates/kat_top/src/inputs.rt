@@ -3,17 +3,18 @@
 
 ghost use Rattle.std.specs.Prelude.{◌≡◌, ◌≤◌, length, List, Some};
 ghost use Rattle.kat_top.specs.declared.fault.Fault.TheVariants as fault;
-ghost use Rattle.kat_top.specs.Inputs.{Thing, ASpec, AChecked, AMachine, AnImage, TheSpec, TheChecked, TheMachine, TheState, machine_of};
+ghost use Rattle.kat_top.specs.Inputs.{Thing, ASpec, AModed, AMachine, AnImage, TheSpec, TheModed, TheMachine, TheState, machine_of};
 ghost use Rattle.kat_top.specs.Limits.{most_bytes};
 ghost use Rattle.kat_top.specs.Jobs.{input};
-ghost use Rattle.kat_top.specs.Loading.{IsFaultOrMemory, ComesOf, Loads, LoadsBytes, error_of_form, error_of_tree, items_of, as_thing};
+ghost use Rattle.kat_top.specs.Loading.{IsFaultOrMemory, ComesOf, IsModedOr, Loads, LoadsBytes, error_of_form, error_of_tree, error_of_type, items_of, as_thing};
 
 use crate::fault::{Fault, TreeKind};
 use kat_forms::{FormError, read_spec};
 use kat_image::{ImageError, read_image};
 use kat_io::{Files, ReadError};
+use kat_mode::{ModeError, check_modes};
 use kat_state::State;
-use kat_syntax::{Checked, Runnable, Spec, are_first_decls};
+use kat_syntax::{Checked, Moded, Runnable, Spec, are_first_decls};
 use kat_text::Text;
 use kat_tree::{TreeError, places, read_tree, spelled_is_writable, trees_fit_their_text};
 use kat_typing::{TypeError, check};
@@ -43,18 +44,14 @@ pub fn load_spec<F: Files>(alloc: Global, files: &mut F, name: &str) -> Result<S
     }
 }
 
-/// The typed specification that a file stands for.
-pub fn load_checked<F: Files>(
-    alloc: Global,
-    files: &mut F,
-    name: &str,
-) -> Result<Checked, InputError>
+/// The typed and moded specification that a file stands for.
+pub fn load_moded<F: Files>(alloc: Global, files: &mut F, name: &str) -> Result<Moded, InputError>
     ensures { (earlier : List Thing) →
-        Loads earlier (input AChecked name.now) (as_thing TheChecked result)
+        Loads earlier (input AModed name.now) (as_thing TheModed result)
         (F.seen files.old) (F.seen files.new) }
 {
     match load(alloc, files, name) {
-        Ok(bytes) => checked_of(alloc, bytes.as_slice()),
+        Ok(bytes) => moded_of_text(alloc, bytes.as_slice()),
         Err(error) => Err(error),
     }
 }
@@ -144,21 +141,31 @@ fn spec_of(alloc: Global, text: &[u8]) -> Result<Spec, InputError>
     }
 }
 
-/// What a text is read as that is to be a typed specification.
-fn checked_of(alloc: Global, text: &[u8]) -> Result<Checked, InputError>
+/// What a text is read as that is to be a typed and moded specification.
+fn moded_of_text(alloc: Global, text: &[u8]) -> Result<Moded, InputError>
     requires { length text.now ≤ most_bytes }
     ensures { (earlier : List Thing) →
-        ComesOf earlier AChecked text.now (as_thing TheChecked result) }
+        ComesOf earlier AModed text.now (as_thing TheModed result) }
 {
     match spec_of(alloc, text) {
         Ok(spec) => match check(alloc, spec) {
-            Ok(checked) => Ok(checked),
-            Err(TypeError::Code { decl, tree, rule }) => {
-                Err(InputError::Fault(Fault::IllTyped { decl, tree, rule }))
-            }
-            Err(TypeError::Memory) => Err(InputError::Memory),
+            Ok(checked) => moded_of(alloc, checked),
+            Err(error) => Err(InputError::of_type(error)),
         },
         Err(error) => Err(error),
+    }
+}
+
+/// What a typed specification is taken as that is to be moded too.
+fn moded_of(alloc: Global, checked: Checked) -> Result<Moded, InputError>
+    ensures { IsModedOr checked result }
+{
+    match check_modes(alloc, checked) {
+        Ok(moded) => Ok(moded),
+        Err(ModeError::Unbound { decl, name }) => {
+            Err(InputError::Fault(Fault::IllModed { decl, name }))
+        }
+        Err(ModeError::Memory) => Err(InputError::Memory),
     }
 }
 
@@ -168,12 +175,12 @@ fn machine_of(alloc: Global, text: &[u8]) -> Result<Runnable, InputError>
     ensures { (earlier : List Thing) →
         ComesOf earlier AMachine text.now (as_thing TheMachine result) }
 {
-    match checked_of(alloc, text) {
-        Ok(checked) => {
-            if !are_first_decls(checked.spec().decls()) {
+    match moded_of_text(alloc, text) {
+        Ok(moded) => {
+            if !are_first_decls(moded.checked().spec().decls()) {
                 return Err(InputError::Fault(Fault::Unbuilt));
             }
-            match Runnable::new(alloc, checked) {
+            match Runnable::new(alloc, moded) {
                 Ok(machine) => Ok(machine),
                 Err(_) => Err(InputError::Memory),
             }
@@ -217,6 +224,18 @@ impl InputError {
         match error {
             FormError::Wanted { place, wanted } => InputError::Fault(Fault::Form { place, wanted }),
             FormError::Memory => InputError::Memory,
+        }
+    }
+
+    /// Of a specification that is not typed.
+    fn of_type(error: TypeError) -> InputError
+        ensures { result ≡ error_of_type error }
+    {
+        match error {
+            TypeError::Code { decl, tree, rule } => {
+                InputError::Fault(Fault::IllTyped { decl, tree, rule })
+            }
+            TypeError::Memory => InputError::Memory,
         }
     }
 }

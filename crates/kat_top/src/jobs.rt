@@ -7,7 +7,7 @@ ghost use Rattle.kat_top.specs.Given.{Answered};
 ghost use Rattle.kat_top.specs.Jobs.{answer_of_run};
 
 use crate::fault::Fault;
-use crate::inputs::{load_checked, load_image, load_machine, load_spec};
+use crate::inputs::{load_image, load_machine, load_moded, load_spec};
 use crate::say::{refuse, say_canonical, say_fault, say_typed};
 use crate::status::Status;
 use kat_io::{Files, Sink};
@@ -17,7 +17,7 @@ use kat_syntax::Runnable;
 use kat_text::Text;
 use std::alloc::Global;
 
-/// `check SPEC`: that a specification is typed.
+/// `check SPEC`: that a specification is typed and moded.
 pub fn check_file<F: Files, K: Sink>(
     alloc: Global,
     spec: &Text,
@@ -27,8 +27,8 @@ pub fn check_file<F: Files, K: Sink>(
     ensures { Answered (Some (job.Check spec.now)) (F.seen files.old) (F.seen files.new)
         result (K.seen out.old) (K.seen out.new) }
 {
-    match load_checked(alloc, files, spec.as_str()) {
-        Ok(found) => say_typed(alloc, out, found.spec()),
+    match load_moded(alloc, files, spec.as_str()) {
+        Ok(found) => say_typed(alloc, out, found.checked().spec()),
         Err(error) => refuse(alloc, out, error),
     }
 }

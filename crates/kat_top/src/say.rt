@@ -33,7 +33,7 @@ pub fn say_fault<K: Sink>(alloc: Global, out: &mut K, fault: &Fault) -> Status
     }
 }
 
-/// Writes that a specification is typed.
+/// Writes that a specification is typed and moded.
 pub fn say_typed<K: Sink>(alloc: Global, out: &mut K, spec: &Spec) -> Status
     ensures { Gives (check_answer spec.now) result (K.seen out.old) (K.seen out.new) }
 {

@@ -23,7 +23,7 @@ pub enum Status {
     /// A text stands for no specification, or for none that can be run yet, or for no image of its
     /// machine.
     Form,
-    /// A specification is not typed.
+    /// A specification is not typed, or not moded.
     IllTyped,
     /// The verdict is a limit that was reached.
     Limit,
@@ -56,7 +56,7 @@ impl Status {
             Fault::Read { .. } => Status::ReadFault,
             Fault::Long { .. } => Status::TooLong,
             Fault::Tree { .. } | Fault::Form { .. } | Fault::Unbuilt => Status::Form,
-            Fault::IllTyped { .. } => Status::IllTyped,
+            Fault::IllTyped { .. } | Fault::IllModed { .. } => Status::IllTyped,
             Fault::Out(_) => Status::Out,
             Fault::Failed { .. } => Status::Failed,
         }

@@ -4,6 +4,8 @@
 #[cfg(test)]
 mod forms;
 #[cfg(test)]
+mod modes;
+#[cfg(test)]
 mod terms;
 #[cfg(test)]
 mod tests;

@@ -234,6 +234,38 @@ pub(crate) fn job_agrees(
     agrees(alloc, &row)
 }
 
+/// What stands behind the declarations of a row, so that what has to stand once does.
+const BEHIND: &str = "(fun s () unit (ret unit)) (step s) (dispatch (else (block b))) \
+    (untrusted (star)) (block b (entry (star)) (within 1) (change true)) (boot b)";
+
+/// The status of an answer of `check`.
+fn status_of(answer: &str) -> Status {
+    if answer.starts_with("typed") {
+        Status::Ok
+    } else {
+        Status::IllTyped
+    }
+}
+
+/// Whether `check` answers so for a text with these declarations.
+pub(crate) fn check_agrees(alloc: Global, decls: &str, answer: &str) -> Result<bool, AllocError> {
+    let spec = format!(in alloc; "(spec 1 {decls})")?;
+    let text = format!(in alloc; "{answer}\n")?;
+    job_agrees(
+        alloc,
+        "check s",
+        spec.as_str(),
+        status_of(answer),
+        text.as_str(),
+    )
+}
+
+/// Whether `check` answers so for these declarations and what has to stand behind them.
+pub(crate) fn row_agrees(alloc: Global, decls: &str, answer: &str) -> Result<bool, AllocError> {
+    let whole = format!(in alloc; "{decls} {BEHIND}")?;
+    check_agrees(alloc, whole.as_str(), answer)
+}
+
 #[test]
 fn texts_are_printed_or_refused(rt: HostRuntime) -> Result<(), Fail> {
     let rows = [

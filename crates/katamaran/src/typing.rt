@@ -2,42 +2,10 @@
 //! of them that is typed; texts with two faults, of which the first is named; and the same in
 //! `run`.
 
-use crate::tests::job_agrees;
+use crate::tests::{check_agrees, job_agrees, row_agrees};
 use kat_top::Status;
 use std::alloc::{AllocError, Global};
 use std::test::Fail;
-
-/// What stands behind the declarations of a row, so that what has to stand once does.
-const BEHIND: &str = "(fun s () unit (ret unit)) (step s) (dispatch (else (block b))) \
-    (untrusted (star)) (block b (entry (star)) (within 1) (change true)) (boot b)";
-
-/// The status of an answer of `check`.
-fn status_of(answer: &str) -> Status {
-    if answer.starts_with("typed") {
-        Status::Ok
-    } else {
-        Status::IllTyped
-    }
-}
-
-/// Whether `check` answers so for a text with these declarations.
-fn check_agrees(alloc: Global, decls: &str, answer: &str) -> Result<bool, AllocError> {
-    let spec = format!(in alloc; "(spec 1 {decls})")?;
-    let text = format!(in alloc; "{answer}\n")?;
-    job_agrees(
-        alloc,
-        "check s",
-        spec.as_str(),
-        status_of(answer),
-        text.as_str(),
-    )
-}
-
-/// Whether `check` answers so for these declarations and what has to stand behind them.
-fn row_agrees(alloc: Global, decls: &str, answer: &str) -> Result<bool, AllocError> {
-    let whole = format!(in alloc; "{decls} {BEHIND}")?;
-    check_agrees(alloc, whole.as_str(), answer)
-}
 
 /// Of names and widths: by condition, three or more declarations with
 /// that condition as their first fault, and behind them what is typed.
@@ -203,13 +171,13 @@ const OPERATIONS: &[(&str, &str)] = &[
         "type 1 5 7",
     ),
     (
-        "(lemma L ((p bool)) ((n bool)) (pre (pure n)) (post (star)) (steps)) (fun f () unit \
-            (lemma L true true))",
+        "(lemma L ((p bool)) ((n bool)) (pre (pure (eq n p))) (post (star)) (steps)) (fun f () \
+            unit (lemma L true true))",
         "type 1 5 7",
     ),
     (
-        "(lemma L ((p bool)) ((n bool)) (pre (pure n)) (post (star)) (steps)) (fun f () unit \
-            (lemma L true))",
+        "(lemma L ((p bool)) ((n bool)) (pre (pure (eq n p))) (post (star)) (steps)) (fun f () \
+            unit (lemma L true))",
         "typed declarations 8",
     ),
     // A slice is inside: lo is at most hi, and hi below the width.
