@@ -6,6 +6,8 @@ mod forms;
 #[cfg(test)]
 mod modes;
 #[cfg(test)]
+mod norm;
+#[cfg(test)]
 mod terms;
 #[cfg(test)]
 mod tests;

@@ -1,0 +1,23 @@
+//! The limits on normal forms.
+
+ghost use Rattle.kat_norm.specs.Answers.{TellsSize};
+ghost use Rattle.kat_norm.specs.Limits.{limit_of};
+
+use kat_term::{MAX_DEPTH, MAX_NODES, NormError, Term, has_depth, nodes_within};
+
+/// The most rules that one normal form takes.
+pub const MAX_RULES: u32 = 1_000_000;
+
+/// Asks the limits on its size of a term: of nodes, then of depth.
+#[tactic(auto, unfolding(kat_term::specs::Limits::max_nodes, kat_term::specs::Limits::max_depth))]
+pub fn within_limits(term: &Term) -> Result<(), NormError>
+    ensures { TellsSize result (limit_of term.now) }
+{
+    if nodes_within(term, MAX_NODES).is_none() {
+        Err(NormError::Nodes)
+    } else if has_depth(term, MAX_DEPTH) {
+        Ok(())
+    } else {
+        Err(NormError::Depth)
+    }
+}

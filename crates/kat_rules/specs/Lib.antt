@@ -1,0 +1,11 @@
+pub mod BitOperations
+pub mod Equations
+pub mod Joins
+pub mod Keeps
+pub mod Orders
+pub mod Patterns
+pub mod Rules
+pub mod Shifts
+pub mod Sums
+pub mod Truths
+pub mod Widths
