@@ -21,5 +21,5 @@ pub use kat_value::Op;
 pub use laws::{one_form, one_reading, places_are_of_the_tree, specifications_can_be_written};
 pub use limits::{DECL_TREES_BOUND, DEEPEST_DECL};
 pub use place::Place;
-pub use stm::{CaseArm, MatchArm, Stm, count_stm};
+pub use stm::{CaseArm, MatchArm, Stm, count_case_arms, count_match_arms, count_stm, count_stms};
 pub use type_name::{Param, TypeName, count_params, count_type};

@@ -137,7 +137,7 @@ pub fn count_stm(stm: &Stm) -> u32
 
 /// The trees of statements side by side.
 #[cycle(statements)]
-fn count_stms(stms: &[Stm]) -> u32
+pub fn count_stms(stms: &[Stm]) -> u32
     ensures { result ≡ capped_count (trees_of_stms stms.now) }
 {
     let mut total: u32 = 0;
@@ -149,7 +149,7 @@ fn count_stms(stms: &[Stm]) -> u32
 
 /// The trees of the arms of a `case`.
 #[cycle(statements)]
-fn count_case_arms(arms: &[CaseArm<Stm>]) -> u32
+pub fn count_case_arms(arms: &[CaseArm<Stm>]) -> u32
     ensures { result ≡ capped_count (trees_of_case_arms arms.now) }
 {
     let mut total: u32 = 0;
@@ -161,7 +161,7 @@ fn count_case_arms(arms: &[CaseArm<Stm>]) -> u32
 
 /// The trees of the arms of a `match`.
 #[cycle(statements)]
-fn count_match_arms(arms: &[MatchArm<Stm>]) -> u32
+pub fn count_match_arms(arms: &[MatchArm<Stm>]) -> u32
     ensures { result ≡ capped_count (trees_of_match_arms arms.now) }
 {
     let mut total: u32 = 0;

@@ -1,2 +1,10 @@
-pub mod Cycles
-pub mod Parts
+mod ArmsTaken
+mod Calls
+mod Chosen
+mod Cycles
+mod Frames
+mod Made
+mod Parts
+mod Sequences
+mod StepFunction
+mod Values

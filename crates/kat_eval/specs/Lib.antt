@@ -1,4 +1,5 @@
-pub mod Before
+pub mod Arms
 pub mod Cycle
+pub mod Frames
 pub mod Locals
 pub mod Running

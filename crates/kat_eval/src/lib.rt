@@ -3,11 +3,15 @@
 //! a failure stands is worked out on the way back.
 #![tactic(auto)]
 
+mod acts;
+mod arms;
 mod eval;
 mod exec;
 mod locals;
+mod memory;
 mod one_cycle;
 mod registers;
 mod running;
+mod sites;
 
 pub use one_cycle::{CycleEnd, cycle};

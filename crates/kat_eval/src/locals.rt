@@ -1,35 +1,93 @@
 //! The names that a statement can use, with their values.
 
-ghost use Rattle.std.specs.Prelude.{◌≡◌, [], ◌∷◌, IfOk};
-ghost use Rattle.kat_syntax.specs.Meaning.{value_of_name};
+ghost use Rattle.std.specs.Prelude.{◌≡◌, [], ◌∷◌};
+ghost use Rattle.std.specs.Option.{option_copied};
+ghost use Rattle.kat_syntax.specs.Cycle.{bound};
+ghost use Rattle.kat_syntax.specs.Evaluation.{value_of_name};
+ghost use Rattle.kat_syntax.specs.RunTables.{FindsPositions, param_names};
 ghost use Rattle.kat_eval.specs.Locals.{locals_of};
 
+use kat_syntax::{FunctionSeen, Named, Param};
 use kat_text::Text;
-use kat_value::{Value, copy_value};
-use std::alloc::{AllocError, Global};
+use kat_value::{Value, Values};
+use std::marker::Model;
 
-/// Names with their values, the newest first. A `let` puts one in front and borrows the others, so
-/// that nothing is copied and nothing has to be taken away.
+/// The parameters of a function that was called, with their values. A look-up is one in a hash
+/// table, however many there are.
+#[derive(Drop)]
+pub struct Frame<'f> {
+    params: &'f [Param],
+    positions: &'f Named<u32>,
+    values: Values,
+}
+
+impl<'f> Model for Frame<'f> {
+    ghost use Rattle.std.specs.Prelude.{List};
+    ghost use Rattle.kat_value.specs.contracts.value.Value as value;
+    ghost use Rattle.std.specs.Coded.{codes};
+    ghost use Rattle.kat_syntax.specs.Evaluation.{Locals};
+    ghost use Rattle.kat_eval.specs.Frames.{paired, IsFrame};
+
+    ghost Value = { Locals };
+
+    ghost coded = { Prim.hlevel (codes, value.the_row.coded) };
+
+    ghost view = { λ f. paired f.params.now f.values };
+
+    ghost invariant = { λ f. IsFrame f.params.now f.positions.now f.values };
+}
+
+impl<'f> Frame<'f> {
+    /// The parameters of a function with these values, where there are as many.
+    pub fn new(function: FunctionSeen<'f>, values: Values) -> Option<Frame<'f>>
+        requires { FindsPositions (param_names function.params.now) function.positions.now }
+        ensures { result ≡ bound function.entry.params.now values }
+    {
+        if values.len() == function.params.len() {
+            Some(Frame {
+                params: function.params,
+                positions: function.positions,
+                values,
+            })
+        } else {
+            None
+        }
+    }
+
+    /// The value of the first parameter of this name.
+    pub fn value(&self, name: &Text) -> Option<&Value>
+        ensures { option_copied result ≡ value_of_name self.now name.now }
+    {
+        match self.positions.find(name) {
+            Some(at) => self.values.get(at as usize),
+            None => None,
+        }
+    }
+}
+
+/// Names with their values, the newest first. A `let` or an arm puts one in front and borrows the
+/// others, so that nothing is copied and nothing has to be taken away; they nest as the text does.
 #[derive(Clone, Copy, Drop)]
-pub enum Locals<'a> {
+pub enum Locals<'a, 'f> {
     Empty,
+    Params(&'a Frame<'f>),
     More {
         name: &'a Text,
         value: &'a Value,
-        rest: &'a Locals<'a>,
+        rest: &'a Locals<'a, 'f>,
     },
 }
 
-impl<'a> Locals<'a> {
-    /// No names.
-    pub fn empty() -> Locals<'a>
-        ensures { locals_of result ≡ [] }
+impl<'a, 'f> Locals<'a, 'f> {
+    /// The parameters of a function.
+    pub fn of(frame: &'a Frame<'f>) -> Locals<'a, 'f>
+        ensures { locals_of result ≡ frame.now }
     {
-        Locals::Empty
+        Locals::Params(frame)
     }
 
     /// These locals with one more in front.
-    pub fn with(&'a self, name: &'a Text, value: &'a Value) -> Locals<'a>
+    pub fn with(&'a self, name: &'a Text, value: &'a Value) -> Locals<'a, 'f>
         ensures { locals_of result ≡ (name.now, value.now) ∷ locals_of self.now }
     {
         Locals::More {
@@ -38,23 +96,24 @@ impl<'a> Locals<'a> {
             rest: self,
         }
     }
-}
 
-/// The value of a name; unit where it has none, which no typed text meets.
-pub fn copy_of_name(alloc: Global, locals: &Locals<'_>, name: &Text) -> Result<Value, AllocError>
-    ensures { IfOk result (λ v. v ≡ value_of_name (locals_of locals.now) name.now) }
-{
-    match locals {
-        Locals::Empty => Ok(Value::Unit),
-        Locals::More {
-            name: newest,
-            value,
-            rest,
-        } => {
-            if newest.same(name) {
-                copy_value(alloc, value)
-            } else {
-                copy_of_name(alloc, rest, name)
+    /// The value of the newest of this name.
+    pub fn value(&self, name: &Text) -> Option<&Value>
+        ensures { option_copied result ≡ value_of_name (locals_of self.now) name.now }
+    {
+        match self {
+            Locals::Empty => None,
+            Locals::Params(frame) => frame.value(name),
+            Locals::More {
+                name: newest,
+                value,
+                rest,
+            } => {
+                if newest.same(name) {
+                    Some(value)
+                } else {
+                    rest.value(name)
+                }
             }
         }
     }

@@ -1,16 +1,13 @@
 //! One cycle of a machine.
 
-ghost use Rattle.std.specs.Prelude.{◌≡◌, ◌^◌};
-ghost use Rattle.kat_syntax.specs.Meaning.{inside};
-ghost use Rattle.kat_syntax.specs.Cycle.{cycle_of, elsewhere, as_cycle};
+ghost use Rattle.kat_syntax.specs.Cycle.{cycle_of, as_cycle};
 ghost use Rattle.kat_eval.specs.Cycle.{EndsAs};
-ghost use Rattle.kat_eval.specs.Running.{progress_of, as_outcome, IsBelow};
+ghost use Rattle.kat_eval.specs.Running.{progress_of, as_call_outcome};
 
-use crate::exec::exec;
-use crate::locals::Locals;
-use crate::running::{Running, Site, StmEnd};
+use crate::exec::call_function;
+use crate::running::{CallEnd, Running};
 use kat_state::State;
-use kat_syntax::{Place, Runnable};
+use kat_syntax::{Checked, Place};
 use sqlite_items::Items;
 use std::alloc::Global;
 
@@ -26,7 +23,7 @@ pub enum CycleEnd {
     },
     /// A call was made with none left.
     Out,
-    /// A `fail` was run, at this place.
+    /// A `fail`, a false `check`, or a load or store outside the memory, at this place.
     Fail {
         site: Place,
     },
@@ -35,35 +32,37 @@ pub enum CycleEnd {
 }
 
 /// One cycle: a call of the step function with so many calls allowed. A call takes one from those
-/// that are left.
-pub fn cycle(alloc: Global, machine: &Runnable, calls: u64, state: State) -> CycleEnd
-    ensures { EndsAs result (cycle_of machine.now calls state) }
+/// that are left. A cycle that comes to what has no meaning fails at the declaration of the step
+/// function; none of a typed specification does.
+pub fn cycle(alloc: Global, checked: &Checked, calls: u64, state: State) -> CycleEnd
+    ensures { EndsAs result (cycle_of checked.now calls state) }
 {
-    if calls == 0 {
-        return CycleEnd::Out;
-    }
-    let step = machine.step_function();
+    let _spec = checked.spec();
+    let step = match checked.step_function() {
+        Some(step) => step,
+        None => unreachable!(),
+    };
     let mut running = Running {
         state,
-        left: calls - 1,
+        left: calls,
         stores: Items::new(alloc),
     };
-    let locals = Locals::empty();
-    match exec(alloc, step.body, machine, &locals, &mut running) {
-        Ok(end) => end_of_cycle(end, step.decl, step.body_at, running),
+    let values = Items::new(alloc);
+    match call_function(alloc, Some(step), values, checked, &mut running) {
+        Ok(end) => end_of_cycle(end, step.decl, running),
         Err(_) => CycleEnd::Memory,
     }
 }
 
-/// The end of a cycle, from that of the step function's body, which is a tree of that function's
-/// declaration.
-fn end_of_cycle(end: StmEnd, decl: u32, body_at: u32, running: Running) -> CycleEnd
-    requires { IsBelow (2 ^ 32) body_at end }
-    ensures { let outcome = as_outcome end (progress_of running) in
-        EndsAs result (as_cycle (elsewhere decl (inside body_at outcome))) }
+/// The end of a cycle, from that of the call of the step function, which is declared at this
+/// number.
+fn end_of_cycle(end: CallEnd, decl: u32, running: Running) -> CycleEnd
+    ensures { EndsAs result
+        (as_cycle (record { decl = decl; tree = 0 })
+        (as_call_outcome end (progress_of running))) }
 {
     match end {
-        StmEnd::Done(_) => {
+        CallEnd::Done(_) => {
             let Running {
                 state,
                 left,
@@ -75,13 +74,10 @@ fn end_of_cycle(end: StmEnd, decl: u32, body_at: u32, running: Running) -> Cycle
                 stores,
             }
         }
-        StmEnd::Out => CycleEnd::Out,
-        StmEnd::Fail(Site::Here(tree)) => CycleEnd::Fail {
-            site: Place {
-                decl,
-                tree: body_at + tree,
-            },
+        CallEnd::Out => CycleEnd::Out,
+        CallEnd::Fail(site) => CycleEnd::Fail { site },
+        CallEnd::Stuck => CycleEnd::Fail {
+            site: Place { decl, tree: 0 },
         },
-        StmEnd::Fail(Site::There(site)) => CycleEnd::Fail { site },
     }
 }

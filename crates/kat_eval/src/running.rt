@@ -1,13 +1,13 @@
-//! What a running cycle has, and how a statement ends.
+//! What a running cycle has, and how statements and calls end.
 
 ghost use Rattle.std.specs.Prelude.{◌≡◌, ◌+◌, ◌<◌, ◌^◌, ℕ};
-ghost use Rattle.kat_syntax.specs.Meaning.{inside};
+ghost use Rattle.kat_ast.specs.Types.{trees_of_type, trees_of_params};
 ghost use Rattle.kat_syntax.specs.Machine.{Progress};
-ghost use Rattle.kat_eval.specs.Running.{as_outcome, IsBelow};
-ghost use Rattle.kat_eval.specs.Before.{trees_before};
+ghost use Rattle.kat_syntax.specs.Outcomes.{at_site, inside, place_in, There};
+ghost use Rattle.kat_eval.specs.Running.{as_outcome, as_call_outcome, IsBelow};
 
 use kat_state::State;
-use kat_syntax::{Expr, Place, Stm, count_expr, count_stm};
+use kat_syntax::{FunctionSeen, Place};
 use kat_value::Value;
 use sqlite_items::Items;
 
@@ -32,19 +32,22 @@ pub enum Site {
 #[derive(Drop)]
 pub enum StmEnd {
     Done(Value),
+    /// A call was made with none left.
     Out,
     Fail(Site),
+    /// It came to what has no meaning.
+    Stuck,
 }
 
-/// What stands in a form before a part of it. Its trees are counted only where that part failed.
-#[derive(Clone, Copy, Drop)]
-pub enum Before<'a> {
-    /// In a `let`, before its second statement.
-    First(&'a Stm),
-    /// In an `if`, before its first branch.
-    Test(&'a Expr),
-    /// In an `if`, before its second branch.
-    Branch(&'a Expr, &'a Stm),
+/// How a call ends.
+#[derive(Drop)]
+pub enum CallEnd {
+    Done(Value),
+    /// A call was made with none left.
+    Out,
+    Fail(Place),
+    /// It came to what has no meaning.
+    Stuck,
 }
 
 impl StmEnd {
@@ -60,31 +63,40 @@ impl StmEnd {
         }
     }
 
-    /// The end of a part that stands behind others, as an end of the form.
-    pub fn behind(self, before: Before<'_>) -> StmEnd
-        requires { IsBelow (2 ^ 32) (trees_before before) self }
-        ensures outcome { (p : Progress) →
-            as_outcome result p ≡ inside (trees_before before.entry) (as_outcome self p) }
-        ensures within { (n : ℕ) → IsBelow n 0 self →
-            IsBelow (trees_before before.entry + n) 0 result }
+    /// The end of a function's body, as that of a call of it.
+    pub fn of_function(self, function: FunctionSeen<'_>) -> CallEnd
+        requires { IsBelow (2 ^ 32)
+            (3 + trees_of_params function.params.now + trees_of_type function.result.now) self }
+        ensures { (p : Progress) → as_call_outcome result p
+            ≡ at_site (place_in function.entry.decl)
+            (inside (3 + trees_of_params function.entry.params.now
+            + trees_of_type function.entry.result.now) (as_outcome self p)) }
     {
         match self {
-            StmEnd::Fail(Site::Here(tree)) => StmEnd::Fail(Site::Here(before.trees() + tree)),
-            end => end,
+            StmEnd::Done(value) => CallEnd::Done(value),
+            StmEnd::Out => CallEnd::Out,
+            StmEnd::Fail(Site::Here(tree)) => CallEnd::Fail(Place {
+                decl: function.decl,
+                tree: function.body_at() + tree,
+            }),
+            StmEnd::Fail(Site::There(place)) => CallEnd::Fail(place),
+            StmEnd::Stuck => CallEnd::Stuck,
         }
     }
 }
 
-impl Before<'_> {
-    /// How many trees stand before the part, the form itself among them.
-    fn trees(self) -> u32
-        requires { trees_before self < 2 ^ 32 }
-        ensures { result ≡ trees_before self.entry }
+impl CallEnd {
+    /// The end of a call, as that of the statement that calls.
+    pub fn of_statement(self) -> StmEnd
+        ensures outcome { (p : Progress) →
+            as_outcome result p ≡ at_site There (as_call_outcome self p) }
+        ensures within { IsBelow 1 0 result }
     {
         match self {
-            Before::First(first) => 3 + count_stm(first),
-            Before::Test(test) => 2 + count_expr(test),
-            Before::Branch(test, first) => 2 + count_expr(test) + count_stm(first),
+            CallEnd::Done(value) => StmEnd::Done(value),
+            CallEnd::Out => StmEnd::Out,
+            CallEnd::Fail(place) => StmEnd::Fail(Site::There(place)),
+            CallEnd::Stuck => StmEnd::Stuck,
         }
     }
 }

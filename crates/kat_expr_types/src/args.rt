@@ -107,7 +107,7 @@ impl ArgTypes {
     }
 
     /// The type that the operation gives.
-    fn given(&self, around: &Around<'_>, signature: Signature) -> Option<Ty>
+    fn given(&self, around: &Around<'_, '_>, signature: Signature) -> Option<Ty>
         ensures { (types : List (Option Ty)) → Keeps signature types self.now →
             result ≡ type_given [] signature types }
     {
@@ -154,7 +154,7 @@ fn width_rule(signature: Signature) -> TypeRule
 pub fn judge_given(
     setting: &Setting<'_, '_, '_>,
     at: u32,
-    wanted: Option<&Params<'_>>,
+    wanted: Option<&Params<'_, '_>>,
     args: &Items<Expr>,
     faults: &mut Faults,
 ) -> u32
@@ -175,7 +175,7 @@ pub fn judge_given(
 }
 
 /// Notes the fault of another count of arguments than is wanted, the list standing at this tree.
-fn judge_count(count: usize, wanted: Option<&Params<'_>>, at: u32, faults: &mut Faults)
+fn judge_count(count: usize, wanted: Option<&Params<'_, '_>>, at: u32, faults: &mut Faults)
     ensures { faults.new ≡ least_with faults.old
         (count_fault (option_copied wanted.entry) count at) }
 {
@@ -185,7 +185,7 @@ fn judge_count(count: usize, wanted: Option<&Params<'_>>, at: u32, faults: &mut 
 }
 
 /// The type that is wanted at a position, where it is known.
-fn wanted_at(wanted: Option<&Params<'_>>, index: usize) -> Option<Ty>
+fn wanted_at(wanted: Option<&Params<'_, '_>>, index: usize) -> Option<Ty>
     ensures { result ≡ option_flatten
         (slice_get (wanted_types (option_copied wanted.entry)) index) }
 {

@@ -83,7 +83,13 @@ fn judge_bits(at: u32, width: u64, number: u64, faults: &mut Faults) -> Known
     Known::new(4, bits_of(width))
 }
 
-fn judge_of(around: &Around<'_>, at: u32, of: &Text, member: &Text, faults: &mut Faults) -> Known
+fn judge_of(
+    around: &Around<'_, '_>,
+    at: u32,
+    of: &Text,
+    member: &Text,
+    faults: &mut Faults,
+) -> Known
     requires { at + 4 < 2 ^ 32 }
     ensures { (standing : typing.Standing) (scope : Scope) →
         Tells (known_of_expr around.now standing scope (expr.Of of.now member.now)) at
@@ -196,7 +202,13 @@ fn judge_get(
 
 /// Notes the fault of a name at this tree that is to be a type declared earlier, and of the kind
 /// wanted.
-fn judge_type_name(around: &Around<'_>, at: u32, name: &Text, is_wanted: bool, faults: &mut Faults)
+fn judge_type_name(
+    around: &Around<'_, '_>,
+    at: u32,
+    name: &Text,
+    is_wanted: bool,
+    faults: &mut Faults,
+)
     ensures { faults.new ≡ least_with faults.old
         (unknown_named at (type_called around.now name.now) is_wanted) }
 {
@@ -226,7 +238,7 @@ fn is_of_kind(wanted: Wanted, kind: RegisterKind) -> bool
 /// An expression at this tree that names a register: it may stand here, and the register is of the
 /// kind wanted and known.
 fn judge_register(
-    around: &Around<'_>,
+    around: &Around<'_, '_>,
     is_allowed: bool,
     wanted: Wanted,
     at: u32,
@@ -255,7 +267,7 @@ fn judge_register(
 
 /// An expression at this tree that names a cell: it may stand here, and the cell is protected.
 fn judge_cell(
-    around: &Around<'_>,
+    around: &Around<'_, '_>,
     is_allowed: bool,
     at: u32,
     cell: u64,

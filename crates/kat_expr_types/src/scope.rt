@@ -20,12 +20,12 @@ use std::marker::Model;
 
 /// Parameters, of one list behind another, with a table of their types.
 #[derive(Drop)]
-pub struct Base<'a> {
-    lists: Items<Params<'a>>,
+pub struct Base<'t, 'd> {
+    lists: Items<Params<'t, 'd>>,
     table: Named<Option<Ty>>,
 }
 
-impl<'a> Model for Base<'a> {
+impl<'t, 'd> Model for Base<'t, 'd> {
     ghost use Rattle.kat_syntax.specs.TypesWritten.{Scope as ScopeSeen};
     ghost use Rattle.kat_expr_types.specs.Bases.{names_in, IsBase};
 
@@ -39,18 +39,18 @@ impl<'a> Model for Base<'a> {
 /// Names with their types, the newest first, and the parameters behind all others. A `let` puts one
 /// in front and borrows the others.
 #[derive(Clone, Copy, Drop)]
-pub enum Scope<'s, 'b> {
-    Base(&'s Base<'b>),
+pub enum Scope<'s, 't, 'd> {
+    Base(&'s Base<'t, 'd>),
     More {
         name: &'s Text,
         ty: Option<Ty>,
-        rest: &'s Scope<'s, 'b>,
+        rest: &'s Scope<'s, 't, 'd>,
     },
 }
 
-impl<'a> Base<'a> {
+impl<'t, 'd> Base<'t, 'd> {
     /// No parameters.
-    pub fn empty(alloc: Global) -> Result<Base<'a>, AllocError>
+    pub fn empty(alloc: Global) -> Result<Base<'t, 'd>, AllocError>
         ensures { IfOk result (λ base. base ≡ []) }
     {
         Ok(Base {
@@ -60,7 +60,7 @@ impl<'a> Base<'a> {
     }
 
     /// Parameters that are known.
-    pub fn of_seen(alloc: Global, params: &Params<'a>) -> Result<Base<'a>, AllocError>
+    pub fn of_seen(alloc: Global, params: &Params<'t, 'd>) -> Result<Base<'t, 'd>, AllocError>
         ensures { IfOk result (λ base. base ≡ params.now) }
     {
         let mut table = Named::new(alloc)?;
@@ -76,11 +76,11 @@ impl<'a> Base<'a> {
     /// noted.
     pub fn judge_params(
         self,
-        around: &Around<'a>,
+        around: &Around<'t, 'd>,
         at: u32,
-        params: &'a [Param],
+        params: &'d [Param],
         faults: &mut Faults,
-    ) -> Result<Base<'a>, AllocError>
+    ) -> Result<Base<'t, 'd>, AllocError>
         requires { at + trees_of_params params.now < 2 ^ 32 + 1 }
         ensures base { IfOk result (λ base. base ≡ with_params around.now self.entry params.now) }
         ensures faults { OnOk result (faults.new ≡ least_with faults.old
@@ -102,7 +102,7 @@ impl<'a> Base<'a> {
 /// Adds the parameter at this position to a table of those before it.
 fn add_param(
     table: &mut Named<Option<Ty>>,
-    params: &Params<'_>,
+    params: &Params<'_, '_>,
     at: usize,
 ) -> Result<(), AllocError>
     requires { at < length params.now }
@@ -117,7 +117,7 @@ fn add_param(
 
 /// Notes the faults of a parameter at this tree, behind those of a table.
 fn judge_param(
-    around: &Around<'_>,
+    around: &Around<'_, '_>,
     table: &Named<Option<Ty>>,
     at: u32,
     param: &Param,
@@ -134,16 +134,16 @@ fn judge_param(
 }
 
 /// Whether a name is declared, or one of a table.
-fn is_taken(around: &Around<'_>, table: &Named<Option<Ty>>, name: &Text) -> bool
+fn is_taken(around: &Around<'_, '_>, table: &Named<Option<Ty>>, name: &Text) -> bool
     ensures { (scope : ScopeSeen) → IsBase scope table.now →
         result ≡ is_in_scope around.now scope name.now }
 {
     around.is_declared(name) || table.find(name).is_some()
 }
 
-impl<'s, 'b> Scope<'s, 'b> {
+impl<'s, 't, 'd> Scope<'s, 't, 'd> {
     /// These names with one more in front.
-    pub fn with(&'s self, name: &'s Text, ty: Option<Ty>) -> Scope<'s, 'b>
+    pub fn with(&'s self, name: &'s Text, ty: Option<Ty>) -> Scope<'s, 't, 'd>
         ensures { scope_of result ≡ record { name = name.now; type = ty } ∷ scope_of self.now }
     {
         Scope::More {
@@ -155,7 +155,7 @@ impl<'s, 'b> Scope<'s, 'b> {
 }
 
 /// The type of the first local of this name, if there is one.
-pub fn local_type(scope: &Scope<'_, '_>, name: &Text) -> Option<Option<Ty>>
+pub fn local_type(scope: &Scope<'_, '_, '_>, name: &Text) -> Option<Option<Ty>>
     ensures { result ≡ local_type (scope_of scope.now) name.now }
 {
     match scope {
@@ -176,8 +176,8 @@ pub fn local_type(scope: &Scope<'_, '_>, name: &Text) -> Option<Option<Ty>>
 
 /// Notes the fault of a local at this tree that hides a name in scope.
 pub fn judge_hiding(
-    around: &Around<'_>,
-    scope: &Scope<'_, '_>,
+    around: &Around<'_, '_>,
+    scope: &Scope<'_, '_, '_>,
     at: u32,
     name: &Text,
     faults: &mut Faults,

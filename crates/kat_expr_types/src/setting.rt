@@ -28,10 +28,10 @@ pub enum Standing {
 
 /// What stands around an expression: the declarations, the names in scope, and where it stands.
 #[derive(Clone, Copy, Drop)]
-pub struct Setting<'s, 'd, 'b> {
-    pub around: &'s Around<'d>,
+pub struct Setting<'s, 't, 'd> {
+    pub around: &'s Around<'t, 'd>,
     pub standing: Standing,
-    pub scope: &'s Scope<'s, 'b>,
+    pub scope: &'s Scope<'s, 't, 'd>,
 }
 
 /// How many trees a form has, and its type where something fixes it.
@@ -41,13 +41,13 @@ pub struct Known {
     pub ty: Option<Ty>,
 }
 
-impl<'s, 'd, 'b> Setting<'s, 'd, 'b> {
+impl<'s, 't, 'd> Setting<'s, 't, 'd> {
     /// An expression that stands so, among these declarations and in this scope.
     pub fn new(
-        around: &'s Around<'d>,
+        around: &'s Around<'t, 'd>,
         standing: Standing,
-        scope: &'s Scope<'s, 'b>,
-    ) -> Setting<'s, 'd, 'b>
+        scope: &'s Scope<'s, 't, 'd>,
+    ) -> Setting<'s, 't, 'd>
         ensures around { result.around.now ≡ around.now }
         ensures standing { result.standing ≡ standing }
         ensures scope { result.scope.now ≡ scope.now }
@@ -60,7 +60,7 @@ impl<'s, 'd, 'b> Setting<'s, 'd, 'b> {
     }
 
     /// An expression of a statement, a guard, or an assertion without kept values.
-    pub fn plain(around: &'s Around<'d>, scope: &'s Scope<'s, 'b>) -> Setting<'s, 'd, 'b>
+    pub fn plain(around: &'s Around<'t, 'd>, scope: &'s Scope<'s, 't, 'd>) -> Setting<'s, 't, 'd>
         ensures around { result.around.now ≡ around.now }
         ensures standing { result.standing ≡ Plain }
         ensures scope { result.scope.now ≡ scope.now }
@@ -93,7 +93,7 @@ pub fn judge_known(is_known: bool, at: u32, faults: &mut Faults)
 }
 
 /// Notes the fault of what needs a memory before it, at this tree.
-pub fn judge_memory(around: &Around<'_>, at: u32, faults: &mut Faults)
+pub fn judge_memory(around: &Around<'_, '_>, at: u32, faults: &mut Faults)
     ensures { faults.new ≡ least_with faults.old (without_memory around.now at) }
 {
     faults.unless(

@@ -11,7 +11,7 @@ use kat_tables::Around;
 use kat_value::is_width;
 
 /// Notes the faults of a written type that stands at this tree.
-pub fn judge_type(around: &Around<'_>, at: u32, ty: &TypeName, faults: &mut Faults)
+pub fn judge_type(around: &Around<'_, '_>, at: u32, ty: &TypeName, faults: &mut Faults)
     requires { at + trees_of_type ty.now < 2 ^ 32 }
     ensures { faults.new ≡ least_with faults.old (type_faults_at around.now at ty.now) }
 {

@@ -1,21 +1,19 @@
 -- What an image says: the values that the registers have at the start.
-use Rattle.std.specs.Prelude.{◌≡◌, ◌≢◌, ◌<◌, ◌+◌, ◌==◌, ◌⊎◌, ℕ, List, [], ◌∷◌, ◌++◌, Some, map, length, take, slice_get, slice_index_or, IsTrue}
+use Rattle.std.specs.Prelude.{◌≡◌, ◌≢◌, ◌<◌, ◌+◌, ◌==◌, ◌⊎◌, ℕ, List, [], ◌∷◌, ◌++◌, Some, length, take, slice_get, slice_index_or, IsTrue}
 use Rattle.std.specs.List.{All, Contains, slice_split}
 use Rattle.std.specs.Str.{IsUtf8, chars}
 use Rattle.kat_names.specs.Names.{position_of}
 use Rattle.kat_tree.specs.declared.tree.Token.TheVariants.{Number}
 use Rattle.kat_tree.specs.Spelling.{SpellsToken}
+use Rattle.kat_value.specs.declared.types.Ty.TheVariants.{Bits}
 use Rattle.kat_value.specs.declared.value.Value.{Value}
 use Rattle.kat_value.specs.declared.value.Value.TheVariants.{Bits as BitsValue}
-use Rattle.kat_value.specs.Operations.{is_number}
-use Rattle.kat_ast.specs.declared.type_name.TypeName.{TypeName}
-use Rattle.kat_ast.specs.declared.type_name.TypeName.TheVariants.{Bits}
-use Rattle.kat_ast.specs.declared.decl.DeclForm.{DeclForm}
+use Rattle.kat_value.specs.Widths.{is_number}
 use Rattle.kat_ast.specs.Spec.{Spec}
-use Rattle.kat_syntax.specs.Tables.{Name, RegisterDecl, registers_of}
-use Rattle.kat_syntax.specs.Cycle.{register_names}
+use Rattle.kat_syntax.specs.Tables.{Name, register_names}
 use Rattle.kat_syntax.specs.Machine.{MachineState}
 use Rattle.kat_syntax.specs.Start.{start_of}
+use Rattle.kat_syntax.specs.States.{register_types}
 
 -- the bytes of one line
 abbrev pub Line : Type 0
@@ -29,10 +27,6 @@ lines_of bytes = slice_split (λ byte. byte == 10) bytes
 -- none of the bytes is this one
 abbrev pub Lacks : ℕ → List ℕ → Type 0
 Lacks byte bytes = All (λ b. b ≢ byte) bytes
-
--- the types of the registers
-abbrev pub register_types : List DeclForm → List TypeName
-register_types decls = map (λ (register : RegisterDecl). register.type) (registers_of decls)
 
 -- the bytes of `reg `
 abbrev pub reg : List ℕ
@@ -52,7 +46,7 @@ pub record Assigns (names : List Name) (line : Line) (at number : ℕ) : Type 0 
   pub named : position_of names name ≡ Some at
   pub spelled : SpellsToken (chars word) (Number number)
 
--- a line sets the register at this position to this value: the number fits the register's width
+-- a line sets the register at this position, which is one of bits, to this value: the number fits
 pub record Sets (spec : Spec) (line : Line) (at : ℕ) (value : Value) : Type 0 where
   pub width : ℕ
   pub number : ℕ
@@ -87,12 +81,13 @@ HasItsValue spec lines values at =
     ((value : Value) × IsSet spec lines at value × (slice_get values at ≡ Some value))
     ⊎ (IsUnset spec lines at × (slice_get values at ≡ slice_get (start_of spec).registers at))
 
--- the bytes are an image of the state: their lines set registers, and the others are as in the
+-- the bytes are an image of the state: their lines set registers of bits, and all else is as in the
 -- first state
 pub record IsImageOf (spec : Spec) (bytes : List ℕ) (state : MachineState) : Type 0 where
   pub settings : AreSettings spec (lines_of bytes)
   pub values : (at : ℕ) → HasItsValue spec (lines_of bytes) state.registers at
-  pub cells : state.cells ≡ []
+  pub first : state.lo ≡ (start_of spec).lo
+  pub cells : state.cells ≡ (start_of spec).cells
 
 -- the line of this number, counted from 1, is the first that is not of the format
 pub record IsFirstRefused (spec : Spec) (bytes : List ℕ) (number : ℕ) : Type 0 where

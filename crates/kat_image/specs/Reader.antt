@@ -1,7 +1,9 @@
 -- The reading of an image, up to one of its lines.
 use Rattle.std.specs.Prelude.{◌≡◌, ℕ, Bool, true, false, List, [], ◌∷◌, ◌++◌, length, slice_get, slice_set, Option, Some, None, IsTrue}
+use Rattle.kat_value.specs.declared.types.Ty.{Ty}
+use Rattle.kat_value.specs.declared.types.Ty.TheVariants as ty
 use Rattle.kat_value.specs.declared.value.Value.TheVariants.{Bits}
-use Rattle.kat_value.specs.Operations.{is_number}
+use Rattle.kat_value.specs.Widths.{is_number}
 use Rattle.kat_ast.specs.Spec.{Spec}
 use Rattle.kat_syntax.specs.Start.{start_of}
 use Rattle.kat_image.specs.declared.image.Image.{Image}
@@ -15,13 +17,13 @@ pub record IsReadTo (spec : Spec) (lines : List Line) (image : Image) : Type 0 w
   pub taken : (at : ℕ) → slice_get image.is_set at ≡ Some true → IsUnset spec lines at → ⊥
   pub flags : length image.is_set ≡ length (start_of spec).registers
   pub room : length image.state.registers ≡ length (start_of spec).registers
-  pub cells : image.state.cells ≡ []
+  pub first : image.state.lo ≡ (start_of spec).lo
+  pub cells : image.state.cells ≡ (start_of spec).cells
 
--- the register at a position is one of this width that no line has set
-abbrev pub IsFree : Image → ℕ → ℕ → Type 0
-IsFree image at width =
-    (slice_get image.is_set at ≡ Some false)
-    × ((n : ℕ) × (slice_get image.state.registers at ≡ Some (Bits width n)))
+-- the register at a position of these types is one of this width that no line has set
+abbrev pub IsFree : List Ty → Image → ℕ → ℕ → Type 0
+IsFree types image at width =
+    (slice_get image.is_set at ≡ Some false) × (slice_get types at ≡ Some (ty.Bits width))
 
 -- the image with a register set
 abbrev pub with_set : Image → ℕ → ℕ → ℕ → Image
@@ -33,9 +35,9 @@ with_set image at width number =
     }
 
 -- a register was free, and the number fits it: it is set
-abbrev pub IsSetTo : Image → ℕ → ℕ → Image → Type 0
-IsSetTo old at number new =
-    (width : ℕ) × IsFree old at width × IsTrue (is_number width number)
+abbrev pub IsSetTo : List Ty → Image → ℕ → ℕ → Image → Type 0
+IsSetTo types old at number new =
+    (width : ℕ) × IsFree types old at width × IsTrue (is_number width number)
     × (new ≡ with_set old at width number)
 
 -- a line was taken behind those before it, or it may not stand there

@@ -3,7 +3,7 @@
 ghost use Rattle.std.specs.Prelude.{◌≡◌, ◌≢◌, ℕ, List, false, replicate, length, IfOk, IfErr, IfSome, IsTrue, IsFalse};
 ghost use Rattle.kat_syntax.specs.Machine.{MachineState};
 ghost use Rattle.kat_syntax.specs.Start.{start_of};
-ghost use Rattle.kat_value.specs.Operations.{is_number};
+ghost use Rattle.kat_value.specs.Widths.{is_number};
 ghost use Rattle.kat_image.specs.Image.{Line, IsImageOf, IsFirstRefused};
 ghost use Rattle.kat_image.specs.ImageError.{IsFault, Gives, Names};
 ghost use Rattle.kat_image.specs.Reader.{IsReadTo, IsFree, IsSetTo, Takes};
@@ -12,15 +12,16 @@ ghost use Rattle.kat_image.specs.declared.fault.ImageError.{ImageError};
 use crate::fault::ImageError;
 use crate::line::{assigned, first_line};
 use kat_state::State;
-use kat_syntax::Runnable;
-use kat_value::{Value, is_number};
+use kat_syntax::Checked;
+use kat_value::{Ty, Value, is_number};
 use sqlite_items::Items;
 use std::alloc::{AllocError, Global};
 
-/// The state that an image stands for. What it does not name is as in `State::start`. `Line` comes
+/// The state that an image stands for: its lines set registers of bits, and what they do not name
+/// is as in `State::start`. `Line` comes
 /// exactly where the bytes are no image of the machine, and names the first line that is not of the
 /// format.
-pub fn read_image(alloc: Global, bytes: &[u8], machine: &Runnable) -> Result<State, ImageError>
+pub fn read_image(alloc: Global, bytes: &[u8], machine: &Checked) -> Result<State, ImageError>
     // What is read is what the bytes are an image of.
     ensures found { IfOk result (IsImageOf machine.now bytes.now) }
     // A state that the bytes are an image of is the answer, unless memory runs out.
@@ -62,7 +63,7 @@ struct Image {
 
 impl Image {
     /// Before the first line.
-    fn start(alloc: Global, machine: &Runnable) -> Result<Image, AllocError>
+    fn start(alloc: Global, machine: &Checked) -> Result<Image, AllocError>
         ensures state { IfOk result (λ image. image.state ≡ start_of machine.now) }
         ensures unset { let count = length (start_of machine.now).registers in
             IfOk result (λ image. image.is_set ≡ replicate count false) }
@@ -72,26 +73,28 @@ impl Image {
         Ok(Image { state, is_set })
     }
 
-    /// The width of a register that no line has set.
-    fn free_width(&self, at: u32) -> Option<u32>
-        ensures found { IfSome result (λ width. IsFree self.now at width) }
-        ensures only { (width : ℕ) → IsFree self.now at width → result ≡ Some width }
+    /// The width of a register that no line has set, where the register at its position is one of
+    /// bits.
+    fn free_width(&self, types: &[Ty], at: u32) -> Option<u32>
+        ensures found { IfSome result (λ width. IsFree types.now self.now at width) }
+        ensures only { (width : ℕ) → IsFree types.now self.now at width → result ≡ Some width }
     {
-        match (self.is_set.get(at as usize), self.state.reg(at)) {
-            (Some(false), Some(Value::Bits { width, .. })) => Some(*width),
+        match (self.is_set.get(at as usize), types.get(at as usize)) {
+            (Some(false), Some(Ty::Bits(width))) => Some(*width),
             _ => None,
         }
     }
 
     /// Sets a register, which no line before has set, to a number that fits; else leaves the image
     /// as it was.
-    fn set(&mut self, at: u32, number: u64) -> bool
-        ensures set { IsTrue result → IsSetTo self.old at number self.new }
-        ensures unset { IsFalse result → (width : ℕ) → IsFree self.old at width →
+    fn set(&mut self, types: &[Ty], at: u32, number: u64) -> bool
+        requires { length self.old.is_set ≡ length self.old.state.registers }
+        ensures set { IsTrue result → IsSetTo types.now self.old at number self.new }
+        ensures unset { IsFalse result → (width : ℕ) → IsFree types.now self.old at width →
             IsTrue (is_number width number) → ⊥ }
         ensures kept { IsFalse result → self.new ≡ self.old }
     {
-        let Some(width) = self.free_width(at) else {
+        let Some(width) = self.free_width(types, at) else {
             return false;
         };
         if !is_number(width, number) {
@@ -103,7 +106,8 @@ impl Image {
     }
 
     /// Takes a line, if it may stand behind those before it.
-    fn take(&mut self, machine: &Runnable, line: &[u8]) -> bool
+    fn take(&mut self, machine: &Checked, line: &[u8]) -> bool
+        requires { length self.old.is_set ≡ length self.old.state.registers }
         ensures { (lines : List Line) → IsReadTo machine.now lines self.old →
             Takes machine.now lines line.now result self.new }
     {
@@ -112,7 +116,7 @@ impl Image {
         }
         match assigned(machine, line) {
             None => false,
-            Some((at, number)) => self.set(at, number),
+            Some((at, number)) => self.set(machine.register_types(), at, number),
         }
     }
 }

@@ -5,12 +5,21 @@ ghost use Rattle.std.specs.List.{All, join_with_byte};
 ghost use Rattle.kat_ast.specs.Spec.{Spec};
 ghost use Rattle.kat_syntax.specs.Machine.{MachineState};
 ghost use Rattle.kat_syntax.specs.Start.{start_of};
-ghost use Rattle.kat_image.specs.Image.{IsImageOf, Lacks, lines_of};
+ghost use Rattle.kat_image.specs.Image.{IsImageOf, IsFirstRefused, Lacks, lines_of};
 
 /// Bytes are an image of at most one state of a specification.
 pub fn one_state()
     ensures { (spec : Spec) (bytes : List ℕ) (first second : MachineState) →
         IsImageOf spec bytes first → IsImageOf spec bytes second → first ≡ second }
+{}
+
+/// Bytes have at most one first line that is not of the format, and are an image of no state where
+/// they have one.
+pub fn one_refusal()
+    ensures line { (spec : Spec) (bytes : List ℕ) (first second : ℕ) →
+        IsFirstRefused spec bytes first → IsFirstRefused spec bytes second → first ≡ second }
+    ensures no_image { (spec : Spec) (bytes : List ℕ) (line : ℕ) (state : MachineState) →
+        IsFirstRefused spec bytes line → IsImageOf spec bytes state → ⊥ }
 {}
 
 /// The empty text is the image of the first state, in which no line has set a register.

@@ -1,4 +1,5 @@
-//! The image of a machine: the text that gives registers the values that they have at the start.
+//! The image of a machine: the text that gives registers of bits the numbers that they have at the
+//! start.
 //! `specs/` says which bytes are an image of which state, apart from the reader, which goes over
 //! the bytes once.
 #![tactic(auto)]
@@ -10,4 +11,4 @@ mod line;
 
 pub use fault::ImageError;
 pub use image::read_image;
-pub use laws::{lines_are_the_text, no_lines_are_the_start, one_state};
+pub use laws::{lines_are_the_text, no_lines_are_the_start, one_refusal, one_state};

@@ -1,5 +1,3 @@
-pub mod States
 pub mod TextLaw
-pub mod Soundness
-pub mod Safety
+pub mod Runs
 pub mod Images

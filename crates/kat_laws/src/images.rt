@@ -1,11 +1,11 @@
-//! What images stand for, in a machine that can be run.
+//! What images stand for.
 
 ghost use Rattle.kat_laws.specs.Images.{ImagesAreStates};
 
-use crate::soundness::starts_are_states;
+use crate::runs::starts_are_states;
 
-/// The state of an image is one of the machine: it has one value for each register, of its declared
-/// type. This is said of the specifications that can be run.
+/// The state of an image is one of the machine: it has one value of its declared type for each
+/// register, and a number that fits for each cell of the memory.
 pub fn images_are_states()
     ensures { ImagesAreStates }
 {

@@ -1,19 +1,12 @@
-//! What holds of every specification that can be run, and that no code needs: typing is sound, a
-//! typed machine meets no ill-typed value, images stand for its states, and the text of a run tells
-//! the run. A function here does nothing: its contract is the law.
+//! What holds of every typed specification, and that no code needs: images stand for states of its
+//! machine, runs keep to them, and the text of a run tells the run. A function here does nothing:
+//! its contract is the law.
 #![tactic(auto)]
 
 mod images;
-mod safety;
-mod soundness;
+mod runs;
 mod text;
 
 pub use images::images_are_states;
-pub use safety::{
-    cycles_are_safe, expressions_are_safe, runs_are_as_meant, runs_are_safe, statements_are_safe,
-};
-pub use soundness::{
-    cycles_are_sound, expressions_are_sound, registers_are_named, runs_are_sound,
-    starts_are_states, statements_are_sound, text_tells_its_run,
-};
+pub use runs::{registers_are_named, runs_keep_states, starts_are_states, text_tells_its_run};
 pub use text::{text_tells_its_end, text_tells_states};

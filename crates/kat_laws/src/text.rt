@@ -8,9 +8,9 @@ use kat_value::equality_is_tested;
 /// how the run ended: two runs of one machine that print the same text have the same boundary
 /// states and the same end.
 ///
-/// This is said of machines without memory whose registers have distinct names, each without a
-/// space, and of states with one value of its declared type (unit, bool or bits) for each register;
-/// the numbers of a fault are below 2^64.
+/// This is said of machines without memory whose registers are unit, bool or bits and have distinct
+/// names, each without a space, and of states of the machine; the numbers of a fault are below
+/// 2^64.
 pub fn text_tells_states()
     ensures { TextTellsRun }
 {

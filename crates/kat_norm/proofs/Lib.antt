@@ -1,3 +1,4 @@
+pub mod NormalLevels
 pub mod NormalParts
 pub mod NormKeeps
 pub mod NormSteps

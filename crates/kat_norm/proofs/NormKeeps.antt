@@ -11,9 +11,10 @@ use Rattle.kat_term.specs.declared.term.Term.TheOpen.{Term-F, Var, Lit, Apply, M
 use Rattle.kat_term.specs.declared.term.Term.TheViews.{roll-Term}
 use Rattle.kat_term.specs.declared.term.Term.TheVariants.{Apply as ApplyTerm, Make as MakeTerm, Rec as RecTerm, rolls-Apply, rolls-Make, rolls-Rec}
 use Rattle.kat_term.specs.declared.term.Term.TheFolds.{map-Term, ind-Term}
-use Rattle.kat_term.specs.Operations.{value_of_op}
+use Rattle.kat_value.specs.Operations.{value_of_op}
 use Rattle.kat_term.specs.Parts.{TermsByParts, ValuesByParts}
-use Rattle.kat_term.specs.Values.{Valuation, IsKept, all_there, value_of_making, value_of_record, value_of}
+use Rattle.kat_value.specs.Making.{all_there, value_of_making, value_of_record}
+use Rattle.kat_term.specs.Values.{Valuation, IsKept, value_of}
 use Rattle.kat_rules.specs.Keeps.{Keeps, KeepsValues}
 use Rattle.kat_rules.specs.Rules.{rule_of}
 use Rattle.kat_norm.specs.Kept.{KeptByRules, ValuesAreKept}

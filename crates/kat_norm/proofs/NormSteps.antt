@@ -15,6 +15,7 @@ use Rattle.kat_term.specs.Sizes.{nodes, depth}
 use Rattle.kat_norm.specs.Answers.{FailsBy, IsOfSize}
 use Rattle.kat_norm.specs.Limits.{limit_of, max_rules}
 use Rattle.kat_norm.specs.Norm.{Normed, Done, norm_from, norm_by, normal_in, unless_past, result_within, and_go, use_rule, norm_head, norm_parts, right_parts}
+use Rattle.kat_norm.proofs.NormalLevels.{right_normal}
 use Rattle.kat_norm.proofs.NormalParts.{goes_by_arguments}
 use Rattle.kat_norm.proofs.Runs.{HeadSoFar}
 
@@ -80,6 +81,7 @@ module _ (rule : Term → Option Term) where
       right_parts rule left right ≡ Done next rest → rest ≤ left → HeadSoFar rule all whole next rest
   next_so_far all whole current right next left rest so_far is parts less = record {
     comes = goes_on all whole current right left so_far is ∙ ap (λ r. and_go r (norm_head rule)) parts;
+    normal = right_normal rule left right next rest parts;
     spent = let s = so_far.spent in omega arith;
   }
 

@@ -2,12 +2,15 @@
 use Rattle.std.proofs.Common.{◌≡◌, ◌∙◌, ℕ, ◌≤◌, ◌++◌, List, Option, Some, None, Ok, refl, ap, sym}
 use Rattle.kat_term.specs.declared.kind.Kind.{Kind}
 use Rattle.kat_term.specs.declared.term.Term.{Term}
+use Rattle.kat_rules.specs.RightSides.{HoldsBelow}
+use Rattle.kat_norm.specs.Levels.{is_normal}
 use Rattle.kat_norm.specs.Limits.{limit_of, max_rules}
 use Rattle.kat_norm.specs.Norm.{Normed, Done, Past, unless_past, result_within, norm_from, norm_by, normal_in, norm_all, norm_head, and_go}
 
--- what is to come of the whole comes of a term whose parts are normed
+-- what is to come of the whole comes of a term whose parts are normed, and normal
 pub record HeadSoFar (rule : Term → Option Term) (all : ℕ) (whole current : Term) (left : ℕ) : Type 0 where
   pub comes : norm_from rule all whole ≡ norm_head rule current left
+  pub normal : HoldsBelow (is_normal rule) 1 current
   pub spent : left ≤ all
 
 -- what is to come of the whole list is what is done and what is to come of the rest

@@ -5,6 +5,7 @@
 #![tactic(auto)]
 
 mod laws;
+mod levels;
 mod limits;
 mod norm;
 mod substitution;

@@ -43,9 +43,9 @@ fn put(term: &Term, alloc: Global, pair: &Pair) -> Result<Term, AllocError>
             }
         }
         Shape::Lit(_) => copy_term(alloc, term),
-        Shape::Apply { op, args } => Ok(apply(op, put_all(args, alloc, pair)?)),
+        Shape::Apply { op, args } => apply(alloc, op, put_all(args, alloc, pair)?),
         Shape::Make { of, ctor, inner } => make(alloc, of, ctor, put(inner, alloc, pair)?),
-        Shape::Rec { of, fields } => Ok(rec(of, put_all(fields, alloc, pair)?)),
+        Shape::Rec { of, fields } => rec(alloc, of, put_all(fields, alloc, pair)?),
     }
 }
 

@@ -1,7 +1,8 @@
 //! The rules on extensions and joins.
 
-ghost use Rattle.std.specs.Prelude.{◌≡◌, ◌+◌, ◌==◌, IfOk};
-ghost use Rattle.kat_rules.specs.Joins.{zext_to_own_width, sext_to_own_width, zext_of_zext, cat_of_zero, cat_of_slices, join_rules};
+ghost use Rattle.std.specs.Prelude.{◌≡◌, ◌∷◌, [], ◌+◌, ◌==◌, IfOk};
+ghost use Rattle.kat_rules.specs.Joins.{zext_to_own_width, sext_to_own_width, zext_of_zext, cat_of_zero, cat_of_slices};
+ghost use Rattle.kat_rules.specs.ByOperation.{rules_at};
 ghost use Rattle.kat_rules.specs.Rules.{first_of};
 
 use kat_rules::{fitting_number_in, sext_in, slice_in, width_in, zext_in};
@@ -9,23 +10,25 @@ use kat_term::{Term, apply_one, args_of, copy_term, same_term};
 use kat_value::{Op, Ty, is_width};
 use std::alloc::{AllocError, Global};
 
-/// The right side of the first rule on extensions and joins that is there.
+/// The right side of the first rule on `cat` that is there.
 pub fn join_rule(alloc: Global, vars: &[Ty], term: &Term) -> Result<Option<Term>, AllocError>
-    ensures { IfOk result (λ r. r ≡ first_of join_rules vars.now term.now) }
+    ensures { IfOk result (λ r. r ≡ first_of (rules_at Op.Cat) vars.now term.now) }
 {
-    if let Some(right) = zext_to_own_width(alloc, vars, term)? {
-        return Ok(Some(right));
-    }
-    if let Some(right) = sext_to_own_width(alloc, vars, term)? {
-        return Ok(Some(right));
-    }
-    if let Some(right) = zext_of_zext(alloc, vars, term)? {
-        return Ok(Some(right));
-    }
     if let Some(right) = cat_of_zero(alloc, vars, term)? {
         return Ok(Some(right));
     }
     cat_of_slices(alloc, vars, term)
+}
+
+/// The same of `zext`.
+pub fn zext_rule(alloc: Global, vars: &[Ty], term: &Term) -> Result<Option<Term>, AllocError>
+    ensures { IfOk result (λ r. r
+        ≡ first_of (zext_to_own_width ∷ zext_of_zext ∷ []) vars.now term.now) }
+{
+    if let Some(right) = zext_to_own_width(alloc, vars, term)? {
+        return Ok(Some(right));
+    }
+    zext_of_zext(alloc, vars, term)
 }
 
 /// zext to the own width is a
@@ -45,7 +48,11 @@ fn zext_to_own_width(alloc: Global, vars: &[Ty], term: &Term) -> Result<Option<T
 }
 
 /// sext to the own width is a
-fn sext_to_own_width(alloc: Global, vars: &[Ty], term: &Term) -> Result<Option<Term>, AllocError>
+pub fn sext_to_own_width(
+    alloc: Global,
+    vars: &[Ty],
+    term: &Term,
+) -> Result<Option<Term>, AllocError>
     ensures { IfOk result (λ r. r ≡ sext_to_own_width vars.now term.now) }
 {
     let Some(longer) = sext_in(term) else {

@@ -25,22 +25,10 @@ pub fn slice_rule(alloc: Global, vars: &[Ty], term: &Term) -> Result<Option<Term
     if let Some(right) = slice_of_slice(alloc, vars, term)? {
         return Ok(Some(right));
     }
-    if let Some(right) = slice_of_low_part(alloc, vars, term)? {
+    if let Some(right) = slice_of_join(alloc, vars, term)? {
         return Ok(Some(right));
     }
-    if let Some(right) = slice_of_high_part(alloc, vars, term)? {
-        return Ok(Some(right));
-    }
-    if let Some(right) = slice_of_both_parts(alloc, vars, term)? {
-        return Ok(Some(right));
-    }
-    if let Some(right) = slice_of_zeros(alloc, vars, term)? {
-        return Ok(Some(right));
-    }
-    if let Some(right) = slice_within_zext(alloc, vars, term)? {
-        return Ok(Some(right));
-    }
-    if let Some(right) = slice_past_zext(alloc, vars, term)? {
+    if let Some(right) = slice_of_zext(alloc, vars, term)? {
         return Ok(Some(right));
     }
     slice_within_sext(alloc, vars, term)
@@ -94,28 +82,12 @@ fn below(width: u32) -> u64
     u64::from(width).saturating_sub(1)
 }
 
-/// slice of cat(a,b) that lies in b is the slice of b
-fn slice_of_low_part(alloc: Global, vars: &[Ty], term: &Term) -> Result<Option<Term>, AllocError>
-    ensures { IfOk result (λ r. r ≡ slice_of_low_part vars.now term.now) }
-{
-    let Some(slice) = slice_in(term) else {
-        return Ok(None);
-    };
-    let Some(sides) = args_of(Op::Cat, slice.of) else {
-        return Ok(None);
-    };
-    let Some(width) = width_in(vars, sides.second) else {
-        return Ok(None);
-    };
-    if slice.hi >= u64::from(width) {
-        return Ok(None);
-    }
-    Ok(Some(slice_of_copy(alloc, slice.hi, slice.lo, sides.second)?))
-}
-
-/// slice of cat(a,b) that lies in a is the slice of a
-fn slice_of_high_part(alloc: Global, vars: &[Ty], term: &Term) -> Result<Option<Term>, AllocError>
-    ensures { IfOk result (λ r. r ≡ slice_of_high_part vars.now term.now) }
+/// A slice of cat(a,b) that lies in b is the slice of b, one that lies in a the slice of a, and one
+/// that lies in both the cat of both slices.
+fn slice_of_join(alloc: Global, vars: &[Ty], term: &Term) -> Result<Option<Term>, AllocError>
+    ensures { IfOk result (λ r. r
+        ≡ first_of (slice_of_low_part ∷ slice_of_high_part ∷ slice_of_both_parts ∷ [])
+        vars.now term.now) }
 {
     let Some(slice) = slice_in(term) else {
         return Ok(None);
@@ -127,86 +99,26 @@ fn slice_of_high_part(alloc: Global, vars: &[Ty], term: &Term) -> Result<Option<
         return Ok(None);
     };
     let seam = u64::from(width);
-    if slice.lo < seam || slice.lo > slice.hi {
+    if slice.hi < seam {
+        return Ok(Some(slice_of_copy(alloc, slice.hi, slice.lo, sides.second)?));
+    }
+    if slice.lo < seam {
+        let high = slice_of_copy(alloc, slice.hi - seam, 0, sides.first)?;
+        let low = slice_of_copy(alloc, seam - 1, slice.lo, sides.second)?;
+        return Ok(Some(apply_two(alloc, Op::Cat, high, low)?));
+    }
+    if slice.lo > slice.hi {
         return Ok(None);
     }
     Ok(Some(slice_of_copy(alloc, slice.hi - seam, slice.lo - seam, sides.first)?))
 }
 
-/// slice of cat(a,b) that lies in both is the cat of both slices
-fn slice_of_both_parts(alloc: Global, vars: &[Ty], term: &Term) -> Result<Option<Term>, AllocError>
-    ensures { IfOk result (λ r. r ≡ slice_of_both_parts vars.now term.now) }
-{
-    let Some(slice) = slice_in(term) else {
-        return Ok(None);
-    };
-    let Some(sides) = args_of(Op::Cat, slice.of) else {
-        return Ok(None);
-    };
-    let Some(width) = width_in(vars, sides.second) else {
-        return Ok(None);
-    };
-    let seam = u64::from(width);
-    if slice.lo >= seam || slice.hi < seam {
-        return Ok(None);
-    }
-    let high = slice_of_copy(alloc, slice.hi - seam, 0, sides.first)?;
-    let low = slice_of_copy(alloc, seam - 1, slice.lo, sides.second)?;
-    Ok(Some(apply_two(alloc, Op::Cat, high, low)?))
-}
-
-/// With v the width of a: slice(h,l,zext a) is 0 where l >= v.
-fn slice_of_zeros(_alloc: Global, vars: &[Ty], term: &Term) -> Result<Option<Term>, AllocError>
-    ensures { IfOk result (λ r. r ≡ slice_of_zeros vars.now term.now) }
-{
-    let Some(slice) = slice_in(term) else {
-        return Ok(None);
-    };
-    let Some(longer) = zext_in(slice.of) else {
-        return Ok(None);
-    };
-    let Some(width) = width_in(vars, longer.of) else {
-        return Ok(None);
-    };
-    if slice.lo < u64::from(width) {
-        return Ok(None);
-    }
-    Ok(zeros_between(slice.hi, slice.lo))
-}
-
-/// As many zeros as a slice has bits, where that is a width.
-fn zeros_between(hi: u64, lo: u64) -> Option<Term>
-    ensures { result ≡ only_if (nat_le lo hi && is_width (hi - lo + 1)) (bits (hi - lo + 1) 0) }
-{
-    if lo <= hi && hi - lo < u64::from(WIDEST) {
-        Some(literal((hi - lo + 1) as u32, 0))
-    } else {
-        None
-    }
-}
-
-/// slice(h,l,zext a) is slice(h,l,a) where h < v
-fn slice_within_zext(alloc: Global, vars: &[Ty], term: &Term) -> Result<Option<Term>, AllocError>
-    ensures { IfOk result (λ r. r ≡ slice_within_zext vars.now term.now) }
-{
-    let Some(slice) = slice_in(term) else {
-        return Ok(None);
-    };
-    let Some(longer) = zext_in(slice.of) else {
-        return Ok(None);
-    };
-    let Some(width) = width_in(vars, longer.of) else {
-        return Ok(None);
-    };
-    if slice.hi >= u64::from(width) {
-        return Ok(None);
-    }
-    Ok(Some(slice_of_copy(alloc, slice.hi, slice.lo, longer.of)?))
-}
-
-/// slice(h,l,zext a) with l < v and h >= v is the zext of slice(v-1,l,a)
-fn slice_past_zext(alloc: Global, vars: &[Ty], term: &Term) -> Result<Option<Term>, AllocError>
-    ensures { IfOk result (λ r. r ≡ slice_past_zext vars.now term.now) }
+/// With v the width of a: slice(h,l,zext a) is 0 where l >= v, slice(h,l,a) where h < v, and the
+/// zext of slice(v-1,l,a) where l < v and h >= v.
+fn slice_of_zext(alloc: Global, vars: &[Ty], term: &Term) -> Result<Option<Term>, AllocError>
+    ensures { IfOk result (λ r. r
+        ≡ first_of (slice_of_zeros ∷ slice_within_zext ∷ slice_past_zext ∷ [])
+        vars.now term.now) }
 {
     let Some(slice) = slice_in(term) else {
         return Ok(None);
@@ -218,7 +130,15 @@ fn slice_past_zext(alloc: Global, vars: &[Ty], term: &Term) -> Result<Option<Ter
         return Ok(None);
     };
     let own = u64::from(width);
-    if slice.lo >= own || slice.hi < own || slice.hi - slice.lo >= u64::from(WIDEST) {
+    if slice.lo >= own {
+        if let Some(zeros) = zeros_between(slice.hi, slice.lo) {
+            return Ok(Some(zeros));
+        }
+    }
+    if slice.hi < own {
+        return Ok(Some(slice_of_copy(alloc, slice.hi, slice.lo, longer.of)?));
+    }
+    if slice.lo >= own || slice.hi - slice.lo >= u64::from(WIDEST) {
         return Ok(None);
     }
     let kept = slice_of_copy(alloc, own - 1, slice.lo, longer.of)?;
@@ -226,6 +146,17 @@ fn slice_past_zext(alloc: Global, vars: &[Ty], term: &Term) -> Result<Option<Ter
         width: slice.hi - slice.lo + 1,
     };
     Ok(Some(apply_one(alloc, op, kept)?))
+}
+
+/// As many zeros as a slice has bits, where that is a width.
+fn zeros_between(hi: u64, lo: u64) -> Option<Term>
+    ensures { result ≡ only_if (nat_le lo hi && is_width (hi - lo + 1)) (bits (hi - lo + 1) 0) }
+{
+    if lo <= hi && hi - lo < u64::from(WIDEST) {
+        Some(literal((hi - lo + 1) as u32, 0))
+    } else {
+        None
+    }
 }
 
 /// slice(h,l,sext a) with h < v is slice(h,l,a)

@@ -2,62 +2,23 @@
 
 ghost use Rattle.std.specs.Prelude.{◌≡◌, ◌∷◌, [], IfOk};
 ghost use Rattle.kat_term.specs.Views.{bits, two};
+ghost use Rattle.kat_rules.specs.ByOperation.{rules_at};
 ghost use Rattle.kat_rules.specs.Rules.{first_of};
-ghost use Rattle.kat_rules.specs.Sums.{sum_rules, sub_of_same, sub_of_literal, out_of_order, add_out_of_order, mul_out_of_order, band_out_of_order, bor_out_of_order, bxor_out_of_order, add_of_zero, add_of_literals, add_of_second_sum, add_of_first_sum};
+ghost use Rattle.kat_rules.specs.Sums.{sub_of_same, sub_of_literal, out_of_order, add_out_of_order, mul_out_of_order, band_out_of_order, bor_out_of_order, bxor_out_of_order, add_of_zero, add_of_literals, add_of_second_sum, add_of_first_sum};
 
 use kat_rules::{fitting_number_in, is_after, width_in};
 use kat_term::{Number, Term, apply_two, args_of, bits, copy_term, same_term};
 use kat_value::{Op, Ty, apply};
 use std::alloc::{AllocError, Global};
 
-/// The first rule on sums, differences and the order of sides whose left side is there.
+/// The right side of the first rule on `add` that is there.
 pub fn sum_rule(alloc: Global, vars: &[Ty], term: &Term) -> Result<Option<Term>, AllocError>
-    ensures { IfOk result (λ r. r ≡ first_of sum_rules vars.now term.now) }
-{
-    if let Some(right) = sub_of_same(alloc, vars, term)? {
-        return Ok(Some(right));
-    }
-    if let Some(right) = sub_of_literal(alloc, vars, term)? {
-        return Ok(Some(right));
-    }
-    side_or_add_rule(alloc, vars, term)
-}
-
-/// The same, from the order of sides on.
-fn side_or_add_rule(alloc: Global, vars: &[Ty], term: &Term) -> Result<Option<Term>, AllocError>
-    ensures { IfOk result (λ r. r
-        ≡ first_of (add_out_of_order ∷ mul_out_of_order ∷ band_out_of_order ∷ bor_out_of_order
-        ∷ bxor_out_of_order ∷ add_of_zero ∷ add_of_literals ∷ add_of_second_sum
-        ∷ add_of_first_sum ∷ []) vars.now term.now) }
+    ensures { IfOk result (λ r. r ≡ first_of (rules_at Op.Add) vars.now term.now) }
 {
     if let Some(right) = out_of_order(alloc, Op::Add, vars, term)? {
         return Ok(Some(right));
     }
-    if let Some(right) = out_of_order(alloc, Op::Mul, vars, term)? {
-        return Ok(Some(right));
-    }
-    if let Some(right) = out_of_order(alloc, Op::Band, vars, term)? {
-        return Ok(Some(right));
-    }
-    if let Some(right) = out_of_order(alloc, Op::Bor, vars, term)? {
-        return Ok(Some(right));
-    }
-    if let Some(right) = out_of_order(alloc, Op::Bxor, vars, term)? {
-        return Ok(Some(right));
-    }
-    add_rule(alloc, vars, term)
-}
-
-/// The same, of the rules on sums with a literal.
-fn add_rule(alloc: Global, vars: &[Ty], term: &Term) -> Result<Option<Term>, AllocError>
-    ensures { IfOk result (λ r. r
-        ≡ first_of (add_of_zero ∷ add_of_literals ∷ add_of_second_sum ∷ add_of_first_sum ∷ [])
-        vars.now term.now) }
-{
-    if let Some(right) = add_of_zero(alloc, vars, term)? {
-        return Ok(Some(right));
-    }
-    if let Some(right) = add_of_literals(alloc, vars, term)? {
+    if let Some(right) = add_of_literal(alloc, vars, term)? {
         return Ok(Some(right));
     }
     if let Some(right) = add_of_second_sum(alloc, vars, term)? {
@@ -66,8 +27,18 @@ fn add_rule(alloc: Global, vars: &[Ty], term: &Term) -> Result<Option<Term>, All
     add_of_first_sum(alloc, vars, term)
 }
 
+/// The same of `sub`.
+pub fn difference_rule(alloc: Global, vars: &[Ty], term: &Term) -> Result<Option<Term>, AllocError>
+    ensures { IfOk result (λ r. r ≡ first_of (rules_at Op.Sub) vars.now term.now) }
+{
+    if let Some(right) = sub_of_same(alloc, vars, term)? {
+        return Ok(Some(right));
+    }
+    sub_of_literal(alloc, vars, term)
+}
+
 /// sub(a,a) is 0
-pub fn sub_of_same(_alloc: Global, vars: &[Ty], term: &Term) -> Result<Option<Term>, AllocError>
+fn sub_of_same(_alloc: Global, vars: &[Ty], term: &Term) -> Result<Option<Term>, AllocError>
     ensures { IfOk result (λ r. r ≡ sub_of_same vars.now term.now) }
 {
     let Some(sides) = args_of(Op::Sub, term) else {
@@ -84,7 +55,7 @@ pub fn sub_of_same(_alloc: Global, vars: &[Ty], term: &Term) -> Result<Option<Te
 }
 
 /// sub(a,n) is add(-n, a), modulo 2^w
-pub fn sub_of_literal(alloc: Global, _vars: &[Ty], term: &Term) -> Result<Option<Term>, AllocError>
+fn sub_of_literal(alloc: Global, _vars: &[Ty], term: &Term) -> Result<Option<Term>, AllocError>
     ensures { IfOk result (λ r. r ≡ sub_of_literal _vars.now term.now) }
 {
     let Some(sides) = args_of(Op::Sub, term) else {
@@ -121,25 +92,10 @@ pub fn out_of_order(
     Ok(Some(apply_two(alloc, op, first, second)?))
 }
 
-/// add(0,a) is a
-pub fn add_of_zero(alloc: Global, _vars: &[Ty], term: &Term) -> Result<Option<Term>, AllocError>
-    ensures { IfOk result (λ r. r ≡ add_of_zero _vars.now term.now) }
-{
-    let Some(sides) = args_of(Op::Add, term) else {
-        return Ok(None);
-    };
-    let Some(literal) = fitting_number_in(sides.first) else {
-        return Ok(None);
-    };
-    if literal.number != 0 {
-        return Ok(None);
-    }
-    Ok(Some(copy_term(alloc, sides.second)?))
-}
-
-/// add(m, add(n,a)) is add(m+n, a), modulo 2^w
-pub fn add_of_literals(alloc: Global, _vars: &[Ty], term: &Term) -> Result<Option<Term>, AllocError>
-    ensures { IfOk result (λ r. r ≡ add_of_literals _vars.now term.now) }
+/// add(0,a) is a, and add(m, add(n,a)) is add(m+n, a), modulo 2^w
+fn add_of_literal(alloc: Global, _vars: &[Ty], term: &Term) -> Result<Option<Term>, AllocError>
+    ensures { IfOk result (λ r. r
+        ≡ first_of (add_of_zero ∷ add_of_literals ∷ []) _vars.now term.now) }
 {
     let Some(whole) = args_of(Op::Add, term) else {
         return Ok(None);
@@ -147,6 +103,9 @@ pub fn add_of_literals(alloc: Global, _vars: &[Ty], term: &Term) -> Result<Optio
     let Some(first) = fitting_number_in(whole.first) else {
         return Ok(None);
     };
+    if first.number == 0 {
+        return Ok(Some(copy_term(alloc, whole.second)?));
+    }
     let Some(sum) = args_of(Op::Add, whole.second) else {
         return Ok(None);
     };
@@ -165,11 +124,7 @@ pub fn add_of_literals(alloc: Global, _vars: &[Ty], term: &Term) -> Result<Optio
 }
 
 /// add(a, add(n,b)) is add(n, add(a,b))
-pub fn add_of_second_sum(
-    alloc: Global,
-    _vars: &[Ty],
-    term: &Term,
-) -> Result<Option<Term>, AllocError>
+fn add_of_second_sum(alloc: Global, _vars: &[Ty], term: &Term) -> Result<Option<Term>, AllocError>
     ensures { IfOk result (λ r. r ≡ add_of_second_sum _vars.now term.now) }
 {
     let Some(whole) = args_of(Op::Add, term) else {
@@ -185,11 +140,7 @@ pub fn add_of_second_sum(
 }
 
 /// add(add(n,a), b) is add(n, add(a,b))
-pub fn add_of_first_sum(
-    alloc: Global,
-    _vars: &[Ty],
-    term: &Term,
-) -> Result<Option<Term>, AllocError>
+fn add_of_first_sum(alloc: Global, _vars: &[Ty], term: &Term) -> Result<Option<Term>, AllocError>
     ensures { IfOk result (λ r. r ≡ add_of_first_sum _vars.now term.now) }
 {
     let Some(whole) = args_of(Op::Add, term) else {

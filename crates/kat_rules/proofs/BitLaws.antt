@@ -11,7 +11,7 @@ use Rattle.kat_value.specs.declared.types.TypeDecl.{TypeDecl}
 use Rattle.kat_value.specs.declared.value.Value.{Value}
 use Rattle.kat_value.specs.declared.value.Value.TheVariants.{Bits}
 use Rattle.kat_value.specs.Numbers.{number_of_op}
-use Rattle.kat_value.specs.Operations.{is_number}
+use Rattle.kat_value.specs.Widths.{is_number}
 use Rattle.kat_term.specs.declared.term.Term.{Term}
 use Rattle.kat_term.specs.Equality.{term_eq}
 use Rattle.kat_term.specs.Values.{Valuation, IsKept, value_of}

@@ -8,7 +8,8 @@ use Rattle.kat_value.specs.declared.types.TypeDecl.{TypeDecl}
 use Rattle.kat_value.specs.declared.value.Value.{Value}
 use Rattle.kat_value.specs.declared.value.Value.TheVariants.{Bool as Truth}
 use Rattle.kat_term.specs.declared.term.Term.{Term}
-use Rattle.kat_term.specs.Operations.{type_of_value, one_type, can_be_chosen}
+use Rattle.kat_value.specs.Operations.{can_be_chosen}
+use Rattle.kat_value.specs.Shown.{type_of_value, one_type}
 use Rattle.kat_term.specs.Types.{IsValuation}
 use Rattle.kat_term.specs.Values.{Valuation, IsKept, value_of}
 use Rattle.kat_term.specs.Views.{one, two, three}

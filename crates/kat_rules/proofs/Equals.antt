@@ -10,11 +10,12 @@ use Rattle.kat_value.specs.declared.value.Value.{Value, out-Value}
 use Rattle.kat_value.specs.declared.value.Value.TheVariants.{Bool as Truth, Bits}
 use Rattle.kat_value.specs.declared.value.Value.TheOpen.{Value-F, Bool as TruthLayer, Bits as BitsLayer}
 use Rattle.kat_value.specs.Equality.{value_eq, TestsEquality}
-use Rattle.kat_value.specs.Operations.{is_number}
+use Rattle.kat_value.specs.Widths.{is_number}
 use Rattle.kat_value.specs.Signatures.{same_type}
 use Rattle.kat_value.specs.Widths.{widest}
 use Rattle.kat_term.specs.declared.term.Term.{Term}
-use Rattle.kat_term.specs.Operations.{type_of_layer, type_of_value, one_type, of_parts}
+use Rattle.kat_value.specs.Operations.{of_parts}
+use Rattle.kat_value.specs.Shown.{type_of_layer, type_of_value, one_type}
 use Rattle.kat_term.specs.Values.{Valuation, IsKept, value_of}
 use Rattle.kat_term.specs.Views.{two, bits}
 use Rattle.kat_rules.proofs.Meaning.{truth_by_layer, bits_by_layer, two_parts, two_from, bits_value, same_numbers}

@@ -13,10 +13,10 @@ use Rattle.kat_value.specs.declared.types.TypeDecl.{TypeDecl}
 use Rattle.kat_value.specs.declared.value.Value.TheVariants.{Bool as Truth, Bits}
 use Rattle.kat_value.specs.Equality.{value_eq}
 use Rattle.kat_value.specs.Numbers.{number_of_op}
-use Rattle.kat_value.specs.Operations.{is_number}
+use Rattle.kat_value.specs.Widths.{is_number}
 use Rattle.kat_term.specs.declared.term.Term.{Term}
 use Rattle.kat_term.specs.Equality.{term_eq}
-use Rattle.kat_term.specs.Operations.{type_of_value}
+use Rattle.kat_value.specs.Shown.{type_of_value}
 use Rattle.kat_term.specs.Types.{IsValuation}
 use Rattle.kat_term.specs.Values.{Valuation, IsKept, value_of}
 use Rattle.kat_term.specs.Views.{one, two, three, truth, bits}

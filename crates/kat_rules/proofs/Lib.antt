@@ -1,5 +1,6 @@
 pub mod Arithmetic
 pub mod BitLaws
+pub mod ByHead
 pub mod ChoiceLaws
 pub mod Equals
 pub mod EquationLaws
@@ -14,6 +15,7 @@ pub mod OrderLaws
 pub mod PartLaws
 pub mod PartMeaning
 pub mod Patterns
+pub mod RightSides
 pub mod RuleLaws
 pub mod ShiftLaws
 pub mod SliceLaws
@@ -21,3 +23,4 @@ pub mod SumLaws
 pub mod TermLaws
 pub mod ToldTypes
 pub mod TruthLaws
+pub mod ValueLaws

@@ -11,14 +11,16 @@ use Rattle.kat_value.specs.declared.value.Value.TheVariants.{Bool as Truth, Bits
 use Rattle.kat_value.specs.declared.value.Value.TheOpen.{Value-F, Bool as TruthLayer, Bits as BitsLayer, Rec as RecLayer}
 use Rattle.kat_value.specs.Equality.{value_eq}
 use Rattle.kat_value.specs.Numbers.{truth_of_op, number_of_op}
-use Rattle.kat_value.specs.Operations.{is_number}
+use Rattle.kat_value.specs.Widths.{is_number}
 use Rattle.kat_value.specs.Widths.{widest}
 use Rattle.kat_term.specs.declared.term.Term.{Term}
 use Rattle.kat_term.specs.declared.term.Term.TheOpen.{Term-F, Apply}
 use Rattle.kat_term.specs.declared.term.Term.TheVariants.{Lit as LitTerm, Apply as ApplyTerm, rolls-Apply}
 use Rattle.kat_term.specs.declared.term.Term.TheViews.{out-Term, roll-Term, roll-out-Term}
-use Rattle.kat_term.specs.Operations.{type_of_value, one_type, of_truth, of_truths, of_number, of_numbers, of_parts, field_of, of_equals, can_be_chosen, of_choice, value_of_one, value_of_two, value_of_three, value_of_op}
-use Rattle.kat_term.specs.Values.{Valuation, IsKept, all_there, is_literal, value_of}
+use Rattle.kat_value.specs.Operations.{of_truth, of_truths, of_number, of_numbers, of_parts, field_of, of_equals, can_be_chosen, of_choice, value_of_one, value_of_two, value_of_three, value_of_op}
+use Rattle.kat_value.specs.Shown.{type_of_value, one_type}
+use Rattle.kat_value.specs.Making.{all_there}
+use Rattle.kat_term.specs.Values.{Valuation, IsKept, is_literal, value_of}
 use Rattle.kat_term.specs.Views.{literal_of}
 use Rattle.kat_rules.specs.Keeps.{Keeps}
 use Rattle.kat_rules.specs.Truths.{is_plain, plain, plain_of, literal_of_literals, op_on_literals}

@@ -9,7 +9,7 @@ use Rattle.kat_value.specs.declared.types.TypeDecl.{TypeDecl}
 use Rattle.kat_value.specs.declared.value.Value.{Value}
 use Rattle.kat_value.specs.declared.value.Value.TheVariants.{Bool as Truth, Bits}
 use Rattle.kat_value.specs.Numbers.{truth_of_op}
-use Rattle.kat_value.specs.Operations.{is_number}
+use Rattle.kat_value.specs.Widths.{is_number}
 use Rattle.kat_value.specs.Widths.{widest}
 use Rattle.kat_term.specs.declared.term.Term.{Term}
 use Rattle.kat_term.specs.Types.{IsValuation}

@@ -11,14 +11,16 @@ use Rattle.kat_value.specs.declared.value.Value.TheOpen.{Value-F, Bool as TruthL
 use Rattle.kat_value.specs.Equality.{value_eq, TestsEquality}
 use Rattle.kat_value.specs.Signatures.{same_type}
 use Rattle.kat_value.specs.declared.types.Ty.TheVariants as ty
-use Rattle.kat_value.specs.Operations.{is_number}
+use Rattle.kat_value.specs.Widths.{is_number}
 use Rattle.kat_value.specs.Widths.{widest}
 use Rattle.kat_term.specs.declared.term.Term.{Term}
 use Rattle.kat_term.specs.declared.term.Term.TheOpen.{Lit, Apply}
 use Rattle.kat_term.specs.declared.term.Term.TheVariants.{Lit as LitTerm, Apply as ApplyTerm, rolls-Lit, rolls-Apply}
 use Rattle.kat_term.specs.declared.term.Term.TheFolds.{fold-roll-Term}
-use Rattle.kat_term.specs.Operations.{type_of_layer, type_of_value, one_type, of_truth, of_truths, of_number, of_numbers, can_be_chosen, of_choice, value_of_one, value_of_two, value_of_three, value_of_op}
-use Rattle.kat_term.specs.Values.{Valuation, IsKept, all_there, is_literal, literal_value, value_layer, value_of}
+use Rattle.kat_value.specs.Operations.{of_truth, of_truths, of_number, of_numbers, can_be_chosen, of_choice, value_of_one, value_of_two, value_of_three, value_of_op}
+use Rattle.kat_value.specs.Shown.{type_of_layer, type_of_value, one_type}
+use Rattle.kat_value.specs.Making.{all_there}
+use Rattle.kat_term.specs.Values.{Valuation, IsKept, is_literal, literal_value, value_layer, value_of}
 use Rattle.kat_term.specs.Views.{one, two, three, truth, bits}
 
 -- the layers of values

@@ -7,7 +7,7 @@ use Rattle.std.proofs.lemmas.Nat.{pow_pos, pow-add, mul-add-lt}
 use Rattle.std.proofs.lemmas.Bool.{cases_Bool, cond-true, cond-false, and_parts, and_from, lt-ltb, leb-true, le-leb, ltb-true}
 use Rattle.kat_value.specs.declared.op.Op.TheVariants.{Add, Sub, Mul, Band, Bor, Bxor, Bnot, Shl, Shr, Sar, Slice, Cat}
 use Rattle.kat_value.specs.Numbers.{has_top_bit, sign_extended, number_of_op}
-use Rattle.kat_value.specs.Operations.{is_number}
+use Rattle.kat_value.specs.Widths.{is_number}
 use Rattle.kat_value.specs.Widths.{widest, is_width}
 use Rattle.kat_rules.proofs.OrderLaws.{below, number_of_less}
 

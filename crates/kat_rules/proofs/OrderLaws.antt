@@ -12,7 +12,7 @@ use Rattle.kat_value.specs.declared.value.Value.{Value}
 use Rattle.kat_value.specs.declared.value.Value.TheVariants.{Bool as Truth, Bits}
 use Rattle.kat_value.specs.Equality.{TestsEquality}
 use Rattle.kat_value.specs.Numbers.{truth_of_op, signed}
-use Rattle.kat_value.specs.Operations.{is_number}
+use Rattle.kat_value.specs.Widths.{is_number}
 use Rattle.kat_value.specs.Widths.{is_width}
 use Rattle.kat_term.specs.declared.term.Term.{Term}
 use Rattle.kat_term.specs.Equality.{term_eq, TestsOperations, TestsTerms}

@@ -12,15 +12,17 @@ use Rattle.kat_value.specs.declared.value.Value.{Value, out-Value, out-roll-Valu
 use Rattle.kat_value.specs.declared.value.Value.TheVariants.{Bool as Truth, Made as MadeValue, Rec as RecValue, rolls-Made as rolls-MadeValue, rolls-Rec as rolls-RecValue}
 use Rattle.kat_value.specs.declared.value.Value.TheOpen.{Value-F, Unit as UnitLayer, Bool as TruthLayer, Bits as BitsLayer, Member as MemberLayer, Made as MadeLayer, Rec as RecLayer}
 use Rattle.kat_value.specs.Equality.{value_eq, TestsEquality, all_hold}
-use Rattle.kat_value.specs.Operations.{is_number}
+use Rattle.kat_value.specs.Widths.{is_number}
 use Rattle.kat_value.specs.Signatures.{same_type}
 use Rattle.kat_value.specs.Typing.{has_type, layer_has_type, passes_ctor, pass_record, all_pass, ctor_at, fields_at}
 use Rattle.kat_term.specs.declared.term.Term.{Term}
 use Rattle.kat_term.specs.declared.term.Term.TheOpen.{Make, Rec}
 use Rattle.kat_term.specs.declared.term.Term.TheVariants.{Make as Maker, Rec as Recorder, rolls-Make, rolls-Rec}
 use Rattle.kat_term.specs.declared.term.Term.TheFolds.{fold-roll-Term}
-use Rattle.kat_term.specs.Operations.{type_of_layer, type_of_value, one_type, field_of}
-use Rattle.kat_term.specs.Values.{Valuation, IsKept, all_there, value_of_making, value_of_record, value_layer, value_of}
+use Rattle.kat_value.specs.Operations.{field_of}
+use Rattle.kat_value.specs.Shown.{type_of_layer, type_of_value, one_type}
+use Rattle.kat_value.specs.Making.{all_there, value_of_making, value_of_record}
+use Rattle.kat_term.specs.Values.{Valuation, IsKept, value_layer, value_of}
 use Rattle.kat_term.specs.Views.{one, two, truth}
 use Rattle.kat_rules.specs.Equations.{equations_of, eq_of_makes, eq_of_recs}
 use Rattle.kat_rules.specs.Keeps.{Keeps}

@@ -10,10 +10,10 @@ use Rattle.kat_value.specs.declared.value.Value.{Value, out-Value, roll-Value, r
 use Rattle.kat_value.specs.declared.value.Value.TheVariants.{Bits, rolls-Bits}
 use Rattle.kat_value.specs.declared.value.Value.TheOpen.{Value-F, Bits as BitsLayer}
 use Rattle.kat_value.specs.Numbers.{sign_extended}
-use Rattle.kat_value.specs.Operations.{is_number}
+use Rattle.kat_value.specs.Widths.{is_number}
 use Rattle.kat_value.specs.Widths.{widest, is_width}
 use Rattle.kat_term.specs.declared.term.Term.{Term}
-use Rattle.kat_term.specs.Operations.{of_parts}
+use Rattle.kat_value.specs.Operations.{of_parts}
 use Rattle.kat_term.specs.Values.{Valuation, IsKept, value_of}
 use Rattle.kat_term.specs.Views.{one, two}
 use Rattle.kat_rules.proofs.Meaning.{out-Bits, two_parts, two_from, number_of_one, number_from, IsOnNumber}

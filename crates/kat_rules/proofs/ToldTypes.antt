@@ -13,7 +13,7 @@ use Rattle.kat_value.specs.declared.value.Value.TheVariants.{Bool as Truth, Bits
 use Rattle.kat_value.specs.declared.value.Value.TheOpen.{Value-F, Bool as TruthLayer, Bits as BitsLayer}
 use Rattle.kat_value.specs.Equality.{value_eq}
 use Rattle.kat_value.specs.Numbers.{truth_of_op, number_of_op}
-use Rattle.kat_value.specs.Operations.{is_number}
+use Rattle.kat_value.specs.Widths.{is_number}
 use Rattle.kat_value.specs.Signatures.{same_type, bits_of}
 use Rattle.kat_value.specs.TypeLaws.{BoolIsTruths, BitsAreNumbers}
 use Rattle.kat_value.specs.Typing.{HasType}
@@ -23,9 +23,11 @@ use Rattle.kat_term.specs.declared.term.Term.TheOpen.{Term-F, Var, Lit, Apply, M
 use Rattle.kat_term.specs.declared.term.Term.TheViews.{roll-Term}
 use Rattle.kat_term.specs.declared.term.Term.TheVariants.{Apply as ApplyTerm, rolls-Apply}
 use Rattle.kat_term.specs.declared.term.Term.TheFolds.{map-Term, fold-roll-Term, ind-Term}
-use Rattle.kat_term.specs.Operations.{type_of_layer, type_of_value, one_type, of_truth, of_truths, of_number, of_numbers, of_parts, of_equals, can_be_chosen, of_choice, value_of_one, value_of_two, value_of_three, value_of_op}
+use Rattle.kat_value.specs.Operations.{of_truth, of_truths, of_number, of_numbers, of_parts, of_equals, can_be_chosen, of_choice, value_of_one, value_of_two, value_of_three, value_of_op}
+use Rattle.kat_value.specs.Shown.{type_of_layer, type_of_value, one_type}
 use Rattle.kat_term.specs.Types.{IsValuation}
-use Rattle.kat_term.specs.Values.{Valuation, all_there, is_literal, literal_value, value_layer, value_of}
+use Rattle.kat_value.specs.Making.{all_there}
+use Rattle.kat_term.specs.Values.{Valuation, is_literal, literal_value, value_layer, value_of}
 use Rattle.kat_rules.specs.Widths.{told, joined, told_by_op, told_layer, told_type, width_of_type, width_of, is_bool_type, is_bool}
 use Rattle.kat_rules.proofs.Meaning.{out-Truth, out-Bits, value_of-Apply, one_parts, two_parts, three_parts}
 

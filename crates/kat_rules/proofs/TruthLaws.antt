@@ -13,7 +13,7 @@ use Rattle.kat_value.specs.declared.value.Value.TheVariants.{Bool as Truth}
 use Rattle.kat_value.specs.Numbers.{truth_of_op, signed}
 use Rattle.kat_term.specs.declared.term.Term.{Term}
 use Rattle.kat_term.specs.Equality.{term_eq, TestsOperations, TestsTerms}
-use Rattle.kat_term.specs.Operations.{of_numbers, value_of_two}
+use Rattle.kat_value.specs.Operations.{of_numbers, value_of_two}
 use Rattle.kat_term.specs.Values.{Valuation, IsKept, value_of}
 use Rattle.kat_term.specs.Views.{one, two, three, truth}
 use Rattle.kat_rules.specs.Keeps.{KeepsValues}

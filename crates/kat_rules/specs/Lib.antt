@@ -1,11 +1,14 @@
 pub mod BitOperations
+pub mod ByOperation
 pub mod Equations
 pub mod Joins
 pub mod Keeps
 pub mod Orders
 pub mod Patterns
+pub mod RightSides
 pub mod Rules
 pub mod Shifts
 pub mod Sums
 pub mod Truths
+pub mod Values
 pub mod Widths

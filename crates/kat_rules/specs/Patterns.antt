@@ -4,7 +4,7 @@ use Rattle.std.specs.Option.{option_or}
 use Rattle.kat_value.specs.declared.op.Op.{Op}
 use Rattle.kat_value.specs.declared.op.Op.TheVariants.{Slice, Zext, Sext, Get}
 use Rattle.kat_value.specs.declared.types.Ty.{Ty}
-use Rattle.kat_value.specs.Operations.{is_number}
+use Rattle.kat_value.specs.Widths.{is_number}
 use Rattle.kat_term.specs.declared.term.Term.{Term}
 use Rattle.kat_term.specs.declared.term.Term.TheOpen.{Term-F, Apply as Application}
 use Rattle.kat_term.specs.declared.term.Term.TheViews.{out-Term}

@@ -11,8 +11,8 @@ use Rattle.kat_term.specs.declared.term.Term.TheOpen.{Term-F, Apply as Applicati
 use Rattle.kat_term.specs.declared.term.Term.TheViews.{out-Term}
 use Rattle.kat_term.specs.declared.term.Term.TheVariants.{Lit}
 use Rattle.kat_term.specs.Equality.{term_eq}
-use Rattle.kat_term.specs.Operations.{value_of_op}
-use Rattle.kat_term.specs.Values.{all_there}
+use Rattle.kat_value.specs.Operations.{value_of_op}
+use Rattle.kat_value.specs.Making.{all_there}
 use Rattle.kat_term.specs.Views.{RecTerm, one, two, three, truth, literal_of}
 use Rattle.kat_rules.specs.Patterns.{Rule, only_if, on_one, on_two, on_three, on_truth, on_rec, on_field}
 use Rattle.kat_rules.specs.Widths.{is_bool}

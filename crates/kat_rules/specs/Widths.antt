@@ -9,7 +9,7 @@ use Rattle.kat_value.specs.Signatures.{bits_of}
 use Rattle.kat_term.specs.declared.term.Term.{Term}
 use Rattle.kat_term.specs.declared.term.Term.TheOpen.{Term-F, Var, Lit, Apply, Make, Rec}
 use Rattle.kat_term.specs.declared.term.Term.TheFolds.{fold-Term}
-use Rattle.kat_term.specs.Operations.{type_of_value}
+use Rattle.kat_value.specs.Shown.{type_of_value}
 
 -- a type, where it is bool or bits of a width
 abbrev pub told : Ty → Option Ty

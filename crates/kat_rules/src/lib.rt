@@ -16,10 +16,15 @@ mod widths;
 pub use equations::{equation_rule, is_after};
 pub use laws::{
     bits_keep_values, equations_keep_values, joins_keep_values, orders_keep_values,
-    rule_keeps_value, shifts_keep_values, sums_keep_values, truths_keep_values,
+    right_sides_are_shallow, rule_keeps_value, rules_go_by_operation, shifts_keep_values,
+    sums_keep_values, told_types_hold, truths_keep_values, values_of_operations,
 };
-pub use orders::order_rule;
-pub use truths::truth_rule;
+pub use literals::op_on_literals;
+pub use orders::{at_most_rule, comparison_of_same, less_rule};
+pub use truths::{
+    choice_rule, conjunction_rule, disjunction_rule, get_of_rec, negation_rule, one_of_same,
+    undone_twice,
+};
 pub use views::{
     FieldParts, Longer, Slice, field_in, fitting_number_in, sext_in, slice_in, zext_in,
 };

@@ -2,8 +2,8 @@
 
 ghost use Rattle.std.specs.Prelude.{◌≡◌, IfOk, map, option_and_then};
 ghost use Rattle.std.specs.Option.{option_copied};
-ghost use Rattle.kat_term.specs.Operations.{value_of_op};
-ghost use Rattle.kat_term.specs.Values.{all_there};
+ghost use Rattle.kat_value.specs.Operations.{value_of_op};
+ghost use Rattle.kat_value.specs.Making.{all_there};
 ghost use Rattle.kat_rules.specs.Truths.{plain_of, op_on_literals};
 
 use crate::values::{value_of_one, value_of_three, value_of_two};

@@ -1,8 +1,11 @@
 //! The rules on comparisons. Each answers its right side, where its left side is there.
 
-ghost use Rattle.std.specs.Prelude.{◌≡◌, ◌∷◌, [], ◌==◌, ◌-◌, ◌^◌, IfOk, nat_le};
+ghost use Rattle.std.specs.Prelude.{◌≡◌, ◌==◌, ◌-◌, ◌^◌, true, false, IfOk, Some, nat_le, if◌then◌else◌};
+ghost use Rattle.kat_term.specs.Views.{bits, one, two, truth as literal};
+ghost use Rattle.kat_rules.specs.ByOperation.{rules_at};
 ghost use Rattle.kat_rules.specs.Rules.{first_of};
-ghost use Rattle.kat_rules.specs.Orders.{order_rules, comparison_of_same, ult_of_zero, ult_of_ones, ule_of_zero, ule_of_ones, is_zero, ult_of_one, ule_of_no_more, ult_of_none, ule_of_one, comparison_of_zexts, ult_of_zexts, ule_of_zexts, ult_of_literal_and_zext, ult_of_zext_and_literal, ule_of_literal_and_zext, ule_of_zext_and_literal};
+ghost use Rattle.kat_rules.specs.Orders.{comparison_of_same, ult_of_zero, ult_of_ones, ule_of_zero, ule_of_ones, is_zero, comparison_of_zexts, on_bits_and_zext};
+ghost use Rattle.kat_rules.specs.Patterns.{only_if, on_two, on_bits};
 
 use crate::views::{fitting_number_in, zext_in};
 use crate::widths::width_in;
@@ -10,20 +13,11 @@ use kat_term::{Term, apply_one, apply_two, arg_of, args_of, bits, copy_term, sam
 use kat_value::{Op, Ty};
 use std::alloc::{AllocError, Global};
 
-/// The right side of the first rule on comparisons that is there.
-pub fn order_rule(alloc: Global, vars: &[Ty], term: &Term) -> Result<Option<Term>, AllocError>
-    ensures { IfOk result (λ r. r ≡ first_of order_rules vars.now term.now) }
+/// The right side of the first rule on `ult` that is there.
+pub fn less_rule(alloc: Global, vars: &[Ty], term: &Term) -> Result<Option<Term>, AllocError>
+    ensures { IfOk result (λ r. r ≡ first_of (rules_at Op.Ult) vars.now term.now) }
 {
     if let Some(right) = comparison_of_same(alloc, Op::Ult, false, vars, term)? {
-        return Ok(Some(right));
-    }
-    if let Some(right) = comparison_of_same(alloc, Op::Slt, false, vars, term)? {
-        return Ok(Some(right));
-    }
-    if let Some(right) = comparison_of_same(alloc, Op::Ule, true, vars, term)? {
-        return Ok(Some(right));
-    }
-    if let Some(right) = comparison_of_same(alloc, Op::Sle, true, vars, term)? {
         return Ok(Some(right));
     }
     if let Some(right) = ult_of_zero(alloc, vars, term)? {
@@ -32,60 +26,47 @@ pub fn order_rule(alloc: Global, vars: &[Ty], term: &Term) -> Result<Option<Term
     if let Some(right) = ult_of_ones(alloc, vars, term)? {
         return Ok(Some(right));
     }
+    if let Some(right) = zero_of_bound(alloc, Op::Ult, 1, vars, term)? {
+        return Ok(Some(right));
+    }
+    if let Some(right) = more_than_zero(alloc, Op::Ult, 0, vars, term)? {
+        return Ok(Some(right));
+    }
+    if let Some(right) = comparison_of_zexts(alloc, Op::Ult, vars, term)? {
+        return Ok(Some(right));
+    }
+    if let Some(right) = literal_and_zext(alloc, Op::Ult, true, vars, term)? {
+        return Ok(Some(right));
+    }
+    zext_and_literal(alloc, Op::Ult, false, vars, term)
+}
+
+/// The same of `ule`.
+pub fn at_most_rule(alloc: Global, vars: &[Ty], term: &Term) -> Result<Option<Term>, AllocError>
+    ensures { IfOk result (λ r. r ≡ first_of (rules_at Op.Ule) vars.now term.now) }
+{
+    if let Some(right) = comparison_of_same(alloc, Op::Ule, true, vars, term)? {
+        return Ok(Some(right));
+    }
     if let Some(right) = ule_of_zero(alloc, vars, term)? {
         return Ok(Some(right));
     }
     if let Some(right) = ule_of_ones(alloc, vars, term)? {
         return Ok(Some(right));
     }
-    zero_or_zext_rule(alloc, vars, term)
-}
-
-/// The same, from the rules that make an equation with zero on.
-fn zero_or_zext_rule(alloc: Global, vars: &[Ty], term: &Term) -> Result<Option<Term>, AllocError>
-    ensures { IfOk result (λ r. r
-        ≡ first_of (ult_of_one ∷ ule_of_no_more ∷ ult_of_none ∷ ule_of_one ∷ ult_of_zexts
-        ∷ ule_of_zexts ∷ ult_of_literal_and_zext ∷ ult_of_zext_and_literal
-        ∷ ule_of_literal_and_zext ∷ ule_of_zext_and_literal ∷ []) vars.now term.now) }
-{
-    if let Some(right) = ult_of_one(alloc, vars, term)? {
+    if let Some(right) = zero_of_bound(alloc, Op::Ule, 0, vars, term)? {
         return Ok(Some(right));
     }
-    if let Some(right) = ule_of_no_more(alloc, vars, term)? {
-        return Ok(Some(right));
-    }
-    if let Some(right) = ult_of_none(alloc, vars, term)? {
-        return Ok(Some(right));
-    }
-    if let Some(right) = ule_of_one(alloc, vars, term)? {
-        return Ok(Some(right));
-    }
-    zext_rule(alloc, vars, term)
-}
-
-/// The same, of the rules on extensions.
-fn zext_rule(alloc: Global, vars: &[Ty], term: &Term) -> Result<Option<Term>, AllocError>
-    ensures { IfOk result (λ r. r
-        ≡ first_of (ult_of_zexts ∷ ule_of_zexts ∷ ult_of_literal_and_zext
-        ∷ ult_of_zext_and_literal ∷ ule_of_literal_and_zext ∷ ule_of_zext_and_literal ∷ [])
-        vars.now term.now) }
-{
-    if let Some(right) = comparison_of_zexts(alloc, Op::Ult, vars, term)? {
+    if let Some(right) = more_than_zero(alloc, Op::Ule, 1, vars, term)? {
         return Ok(Some(right));
     }
     if let Some(right) = comparison_of_zexts(alloc, Op::Ule, vars, term)? {
         return Ok(Some(right));
     }
-    if let Some(right) = ult_of_literal_and_zext(alloc, vars, term)? {
+    if let Some(right) = literal_and_zext(alloc, Op::Ule, false, vars, term)? {
         return Ok(Some(right));
     }
-    if let Some(right) = ult_of_zext_and_literal(alloc, vars, term)? {
-        return Ok(Some(right));
-    }
-    if let Some(right) = ule_of_literal_and_zext(alloc, vars, term)? {
-        return Ok(Some(right));
-    }
-    ule_of_zext_and_literal(alloc, vars, term)
+    zext_and_literal(alloc, Op::Ule, true, vars, term)
 }
 
 /// A comparison of equal sides is this truth: ult(a,a) is false, ule(a,a) is true.
@@ -183,66 +164,49 @@ fn is_zero(alloc: Global, width: u32, term: &Term) -> Result<Term, AllocError>
     apply_two(alloc, Op::Eq, bits(width, 0), copy_term(alloc, term)?)
 }
 
-/// ult(a,1) is eq(0,a)
-pub fn ult_of_one(alloc: Global, _vars: &[Ty], term: &Term) -> Result<Option<Term>, AllocError>
-    ensures { IfOk result (λ r. r ≡ ult_of_one _vars.now term.now) }
+/// A comparison with the literal on its second side that says zero: ult(a,1) is eq(0,a), and so is
+/// ule(a,0).
+fn zero_of_bound(
+    alloc: Global,
+    op: Op,
+    number: u64,
+    _vars: &[Ty],
+    term: &Term,
+) -> Result<Option<Term>, AllocError>
+    ensures { IfOk result (λ r. r ≡ on_two op term.now (λ a l. on_bits l (λ w n.
+        only_if (n == number) (is_zero w a)))) }
 {
-    let Some(sides) = args_of(Op::Ult, term) else {
+    let Some(sides) = args_of(op, term) else {
         return Ok(None);
     };
     let Some(bound) = fitting_number_in(sides.second) else {
         return Ok(None);
     };
-    if bound.number != 1 {
+    if bound.number != number {
         return Ok(None);
     }
     Ok(Some(is_zero(alloc, bound.width, sides.first)?))
 }
 
-/// ule(a,0) is eq(0,a)
-pub fn ule_of_no_more(alloc: Global, _vars: &[Ty], term: &Term) -> Result<Option<Term>, AllocError>
-    ensures { IfOk result (λ r. r ≡ ule_of_no_more _vars.now term.now) }
+/// One with the literal on its first side that says more than zero: ult(0,a) is not(eq(0,a)), and
+/// so is ule(1,a).
+fn more_than_zero(
+    alloc: Global,
+    op: Op,
+    number: u64,
+    _vars: &[Ty],
+    term: &Term,
+) -> Result<Option<Term>, AllocError>
+    ensures { IfOk result (λ r. r ≡ on_two op term.now (λ l a. on_bits l (λ w n.
+        only_if (n == number) (one Op.Not (is_zero w a))))) }
 {
-    let Some(sides) = args_of(Op::Ule, term) else {
-        return Ok(None);
-    };
-    let Some(bound) = fitting_number_in(sides.second) else {
-        return Ok(None);
-    };
-    if bound.number != 0 {
-        return Ok(None);
-    }
-    Ok(Some(is_zero(alloc, bound.width, sides.first)?))
-}
-
-/// ult(0,a) is not(eq(0,a))
-pub fn ult_of_none(alloc: Global, _vars: &[Ty], term: &Term) -> Result<Option<Term>, AllocError>
-    ensures { IfOk result (λ r. r ≡ ult_of_none _vars.now term.now) }
-{
-    let Some(sides) = args_of(Op::Ult, term) else {
+    let Some(sides) = args_of(op, term) else {
         return Ok(None);
     };
     let Some(bound) = fitting_number_in(sides.first) else {
         return Ok(None);
     };
-    if bound.number != 0 {
-        return Ok(None);
-    }
-    let zero = is_zero(alloc, bound.width, sides.second)?;
-    Ok(Some(apply_one(alloc, Op::Not, zero)?))
-}
-
-/// ule(1,a) is not(eq(0,a))
-pub fn ule_of_one(alloc: Global, _vars: &[Ty], term: &Term) -> Result<Option<Term>, AllocError>
-    ensures { IfOk result (λ r. r ≡ ule_of_one _vars.now term.now) }
-{
-    let Some(sides) = args_of(Op::Ule, term) else {
-        return Ok(None);
-    };
-    let Some(bound) = fitting_number_in(sides.first) else {
-        return Ok(None);
-    };
-    if bound.number != 1 {
+    if bound.number != number {
         return Ok(None);
     }
     let zero = is_zero(alloc, bound.width, sides.second)?;
@@ -281,15 +245,21 @@ pub fn comparison_of_zexts(
     Ok(Some(apply_two(alloc, op, first, second)?))
 }
 
-/// With v the width of a: ult(m, zext a) is false where m >= 2^v - 1, else ult(m,a).
-pub fn ult_of_literal_and_zext(
+/// With v the width of a: ult(m, zext a) is false where m >= 2^v - 1, else ult(m,a); ule(m, zext a)
+/// is false where m >= 2^v, else ule(m,a).
+fn literal_and_zext(
     alloc: Global,
+    op: Op,
+    by_ones: bool,
     vars: &[Ty],
     term: &Term,
 ) -> Result<Option<Term>, AllocError>
-    ensures { IfOk result (λ r. r ≡ ult_of_literal_and_zext vars.now term.now) }
+    ensures { IfOk result (λ r. r ≡ on_two op term.now (λ l z.
+        on_bits_and_zext vars.now l z (λ v m a.
+        Some (if nat_le (if by_ones then 2 ^ v - 1 else 2 ^ v) m then literal false
+        else two op (bits v m) a)))) }
 {
-    let Some(sides) = args_of(Op::Ult, term) else {
+    let Some(sides) = args_of(op, term) else {
         return Ok(None);
     };
     let Some(bound) = fitting_number_in(sides.first) else {
@@ -301,22 +271,28 @@ pub fn ult_of_literal_and_zext(
     let Some(width) = width_in(vars, a) else {
         return Ok(None);
     };
-    if is_ones_or_more(width, bound.number) {
+    if is_past(by_ones, width, bound.number) {
         return Ok(Some(truth(false)));
     }
     let second = copy_term(alloc, a)?;
-    Ok(Some(apply_two(alloc, Op::Ult, bits(width, bound.number), second)?))
+    Ok(Some(apply_two(alloc, op, bits(width, bound.number), second)?))
 }
 
-/// With v the width of a: ult(zext a, m) is true where m >= 2^v, else ult(a,m).
-pub fn ult_of_zext_and_literal(
+/// With v the width of a: ult(zext a, m) is true where m >= 2^v, else ult(a,m); ule(zext a, m) is
+/// true where m >= 2^v - 1, else ule(a,m).
+fn zext_and_literal(
     alloc: Global,
+    op: Op,
+    by_ones: bool,
     vars: &[Ty],
     term: &Term,
 ) -> Result<Option<Term>, AllocError>
-    ensures { IfOk result (λ r. r ≡ ult_of_zext_and_literal vars.now term.now) }
+    ensures { IfOk result (λ r. r ≡ on_two op term.now (λ z l.
+        on_bits_and_zext vars.now l z (λ v m a.
+        Some (if nat_le (if by_ones then 2 ^ v - 1 else 2 ^ v) m then literal true
+        else two op a (bits v m))))) }
 {
-    let Some(sides) = args_of(Op::Ult, term) else {
+    let Some(sides) = args_of(op, term) else {
         return Ok(None);
     };
     let Some(bound) = fitting_number_in(sides.second) else {
@@ -328,65 +304,11 @@ pub fn ult_of_zext_and_literal(
     let Some(width) = width_in(vars, a) else {
         return Ok(None);
     };
-    if is_past(width, bound.number) {
+    if is_past(by_ones, width, bound.number) {
         return Ok(Some(truth(true)));
     }
     let first = copy_term(alloc, a)?;
-    Ok(Some(apply_two(alloc, Op::Ult, first, bits(width, bound.number))?))
-}
-
-/// With v the width of a: ule(m, zext a) is false where m >= 2^v, else ule(m,a).
-pub fn ule_of_literal_and_zext(
-    alloc: Global,
-    vars: &[Ty],
-    term: &Term,
-) -> Result<Option<Term>, AllocError>
-    ensures { IfOk result (λ r. r ≡ ule_of_literal_and_zext vars.now term.now) }
-{
-    let Some(sides) = args_of(Op::Ule, term) else {
-        return Ok(None);
-    };
-    let Some(bound) = fitting_number_in(sides.first) else {
-        return Ok(None);
-    };
-    let Some(a) = arg_of(extension_to(bound.width), sides.second) else {
-        return Ok(None);
-    };
-    let Some(width) = width_in(vars, a) else {
-        return Ok(None);
-    };
-    if is_past(width, bound.number) {
-        return Ok(Some(truth(false)));
-    }
-    let second = copy_term(alloc, a)?;
-    Ok(Some(apply_two(alloc, Op::Ule, bits(width, bound.number), second)?))
-}
-
-/// With v the width of a: ule(zext a, m) is true where m >= 2^v - 1, else ule(a,m).
-pub fn ule_of_zext_and_literal(
-    alloc: Global,
-    vars: &[Ty],
-    term: &Term,
-) -> Result<Option<Term>, AllocError>
-    ensures { IfOk result (λ r. r ≡ ule_of_zext_and_literal vars.now term.now) }
-{
-    let Some(sides) = args_of(Op::Ule, term) else {
-        return Ok(None);
-    };
-    let Some(bound) = fitting_number_in(sides.second) else {
-        return Ok(None);
-    };
-    let Some(a) = arg_of(extension_to(bound.width), sides.first) else {
-        return Ok(None);
-    };
-    let Some(width) = width_in(vars, a) else {
-        return Ok(None);
-    };
-    if is_ones_or_more(width, bound.number) {
-        return Ok(Some(truth(true)));
-    }
-    let first = copy_term(alloc, a)?;
-    Ok(Some(apply_two(alloc, Op::Ule, first, bits(width, bound.number))?))
+    Ok(Some(apply_two(alloc, op, first, bits(width, bound.number))?))
 }
 
 /// The extension by zeros to a width.
@@ -398,8 +320,19 @@ fn extension_to(width: u32) -> Op
     }
 }
 
+/// Whether a number is at least the greatest of a width, or else past it.
+fn is_past(by_ones: bool, width: u32, number: u64) -> bool
+    ensures { result ≡ nat_le (if by_ones then 2 ^ width - 1 else 2 ^ width) number }
+{
+    if by_ones {
+        is_ones_or_more(width, number)
+    } else {
+        is_more_than_ones(width, number)
+    }
+}
+
 /// Whether a number is past those of a width.
-fn is_past(width: u32, number: u64) -> bool
+fn is_more_than_ones(width: u32, number: u64) -> bool
     ensures { result ≡ nat_le (2 ^ width) number }
 {
     if width >= 64 {

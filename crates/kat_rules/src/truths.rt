@@ -1,12 +1,14 @@
 //! The rules on fields, on truths and on choices. Each answers its right side, where its left side
 //! is there.
 
-ghost use Rattle.std.specs.Prelude.{◌≡◌, ◌∷◌, [], IfOk, Some};
+ghost use Rattle.std.specs.Prelude.{◌≡◌, IfOk, Some};
 ghost use Rattle.kat_term.specs.Views.{one, two, truth as literal};
+ghost use Rattle.kat_rules.specs.BitOperations.{on_same};
+ghost use Rattle.kat_rules.specs.ByOperation.{rules_at};
+ghost use Rattle.kat_rules.specs.Patterns.{on_one};
 ghost use Rattle.kat_rules.specs.Rules.{first_of};
-ghost use Rattle.kat_rules.specs.Truths.{truth_rules, get_of_rec, not_of_not, not_of_and, not_of_or, not_of_comparison, on_first_truth, on_second_truth, and_of_first_false, and_of_second_false, and_of_first_true, and_of_second_true, or_of_first_true, or_of_second_true, or_of_first_false, or_of_second_false, and_of_same, or_of_same, ite_of_truth, ite_of_same, ite_of_not, ite_of_truths};
+ghost use Rattle.kat_rules.specs.Truths.{get_of_rec, not_of_and, not_of_or, not_of_comparison, on_first_truth, on_second_truth, and_of_first_false, and_of_second_false, and_of_first_true, and_of_second_true, or_of_first_true, or_of_second_true, or_of_first_false, or_of_second_false, ite_of_truth, ite_of_same, ite_of_not, ite_of_truths};
 
-use crate::literals::op_on_literals;
 use crate::views::field_in;
 use crate::widths::is_bool;
 use kat_term::{
@@ -16,17 +18,11 @@ use kat_term::{
 use kat_value::{Op, Ty};
 use std::alloc::{AllocError, Global};
 
-/// The right side of the first rule on literals, fields, truths and choices that is there.
-pub fn truth_rule(alloc: Global, vars: &[Ty], term: &Term) -> Result<Option<Term>, AllocError>
-    ensures { IfOk result (λ r. r ≡ first_of truth_rules vars.now term.now) }
+/// The right side of the first rule on `not` that is there.
+pub fn negation_rule(alloc: Global, vars: &[Ty], term: &Term) -> Result<Option<Term>, AllocError>
+    ensures { IfOk result (λ r. r ≡ first_of (rules_at Op.Not) vars.now term.now) }
 {
-    if let Some(right) = op_on_literals(alloc, vars, term)? {
-        return Ok(Some(right));
-    }
-    if let Some(right) = get_of_rec(alloc, vars, term)? {
-        return Ok(Some(right));
-    }
-    if let Some(right) = not_of_not(alloc, vars, term)? {
+    if let Some(right) = undone_twice(alloc, Op::Not, vars, term)? {
         return Ok(Some(right));
     }
     if let Some(right) = not_of_and(alloc, vars, term)? {
@@ -44,23 +40,12 @@ pub fn truth_rule(alloc: Global, vars: &[Ty], term: &Term) -> Result<Option<Term
     if let Some(right) = not_of_comparison(alloc, Op::Slt, Op::Sle, vars, term)? {
         return Ok(Some(right));
     }
-    if let Some(right) = not_of_comparison(alloc, Op::Sle, Op::Slt, vars, term)? {
-        return Ok(Some(right));
-    }
-    junction_or_choice_rule(alloc, vars, term)
+    not_of_comparison(alloc, Op::Sle, Op::Slt, vars, term)
 }
 
-/// The same, from the rules on `and` on.
-fn junction_or_choice_rule(
-    alloc: Global,
-    vars: &[Ty],
-    term: &Term,
-) -> Result<Option<Term>, AllocError>
-    ensures { IfOk result (λ r. r
-        ≡ first_of (and_of_first_false ∷ and_of_second_false ∷ and_of_first_true
-        ∷ and_of_second_true ∷ or_of_first_true ∷ or_of_second_true ∷ or_of_first_false
-        ∷ or_of_second_false ∷ and_of_same ∷ or_of_same ∷ ite_of_truth ∷ ite_of_same
-        ∷ ite_of_not ∷ ite_of_truths ∷ []) vars.now term.now) }
+/// The same of `and`.
+pub fn conjunction_rule(alloc: Global, vars: &[Ty], term: &Term) -> Result<Option<Term>, AllocError>
+    ensures { IfOk result (λ r. r ≡ first_of (rules_at Op.And) vars.now term.now) }
 {
     if let Some(right) = first_truth_decides(alloc, Op::And, false, vars, term)? {
         return Ok(Some(right));
@@ -74,6 +59,13 @@ fn junction_or_choice_rule(
     if let Some(right) = second_truth_goes(alloc, Op::And, true, vars, term)? {
         return Ok(Some(right));
     }
+    one_of_same(alloc, Op::And, vars, term)
+}
+
+/// The same of `or`.
+pub fn disjunction_rule(alloc: Global, vars: &[Ty], term: &Term) -> Result<Option<Term>, AllocError>
+    ensures { IfOk result (λ r. r ≡ first_of (rules_at Op.Or) vars.now term.now) }
+{
     if let Some(right) = first_truth_decides(alloc, Op::Or, true, vars, term)? {
         return Ok(Some(right));
     }
@@ -86,21 +78,13 @@ fn junction_or_choice_rule(
     if let Some(right) = second_truth_goes(alloc, Op::Or, false, vars, term)? {
         return Ok(Some(right));
     }
-    same_or_choice_rule(alloc, vars, term)
+    one_of_same(alloc, Op::Or, vars, term)
 }
 
-/// The same, from the rules on equal sides on.
-fn same_or_choice_rule(alloc: Global, vars: &[Ty], term: &Term) -> Result<Option<Term>, AllocError>
-    ensures { IfOk result (λ r. r
-        ≡ first_of (and_of_same ∷ or_of_same ∷ ite_of_truth ∷ ite_of_same ∷ ite_of_not
-        ∷ ite_of_truths ∷ []) vars.now term.now) }
+/// The same of `ite`.
+pub fn choice_rule(alloc: Global, vars: &[Ty], term: &Term) -> Result<Option<Term>, AllocError>
+    ensures { IfOk result (λ r. r ≡ first_of (rules_at Op.Ite) vars.now term.now) }
 {
-    if let Some(right) = and_of_same(alloc, vars, term)? {
-        return Ok(Some(right));
-    }
-    if let Some(right) = or_of_same(alloc, vars, term)? {
-        return Ok(Some(right));
-    }
     if let Some(right) = ite_of_truth(alloc, vars, term)? {
         return Ok(Some(right));
     }
@@ -132,14 +116,19 @@ pub fn get_of_rec(alloc: Global, _vars: &[Ty], term: &Term) -> Result<Option<Ter
     Ok(Some(copy_term(alloc, component)?))
 }
 
-/// not(not a) is a
-pub fn not_of_not(alloc: Global, _vars: &[Ty], term: &Term) -> Result<Option<Term>, AllocError>
-    ensures { IfOk result (λ r. r ≡ not_of_not _vars.now term.now) }
+/// An operation that undoes itself: not(not a) is a; the same of `bnot`.
+pub fn undone_twice(
+    alloc: Global,
+    op: Op,
+    _vars: &[Ty],
+    term: &Term,
+) -> Result<Option<Term>, AllocError>
+    ensures { IfOk result (λ r. r ≡ on_one op term.now (λ n. on_one op n (λ a. Some a))) }
 {
-    let Some(inner) = arg_of(Op::Not, term) else {
+    let Some(inner) = arg_of(op, term) else {
         return Ok(None);
     };
-    let Some(a) = arg_of(Op::Not, inner) else {
+    let Some(a) = arg_of(op, inner) else {
         return Ok(None);
     };
     Ok(Some(copy_term(alloc, a)?))
@@ -295,24 +284,17 @@ pub fn second_truth_goes(
     }
 }
 
-/// and(a,a) is a
-pub fn and_of_same(alloc: Global, _vars: &[Ty], term: &Term) -> Result<Option<Term>, AllocError>
-    ensures { IfOk result (λ r. r ≡ and_of_same _vars.now term.now) }
+/// An operation on equal sides that is the one of them: and(a,a) is a; the same of `or`, `band` and
+/// `bor`.
+pub fn one_of_same(
+    alloc: Global,
+    op: Op,
+    _vars: &[Ty],
+    term: &Term,
+) -> Result<Option<Term>, AllocError>
+    ensures { IfOk result (λ r. r ≡ on_same op term.now (λ a. Some a)) }
 {
-    let Some(sides) = args_of(Op::And, term) else {
-        return Ok(None);
-    };
-    if !same_term(sides.first, sides.second) {
-        return Ok(None);
-    }
-    Ok(Some(copy_term(alloc, sides.first)?))
-}
-
-/// or(a,a) is a
-pub fn or_of_same(alloc: Global, _vars: &[Ty], term: &Term) -> Result<Option<Term>, AllocError>
-    ensures { IfOk result (λ r. r ≡ or_of_same _vars.now term.now) }
-{
-    let Some(sides) = args_of(Op::Or, term) else {
+    let Some(sides) = args_of(op, term) else {
         return Ok(None);
     };
     if !same_term(sides.first, sides.second) {

@@ -6,7 +6,8 @@ ghost use Rattle.kat_value.specs.Numbers.{IsNumber, AreNumbers, truth_of_op, num
 ghost use Rattle.kat_value.specs.Widths.{widest};
 ghost use Rattle.kat_value.specs.declared.value.Value.{Value as AnyValue, out-Value};
 ghost use Rattle.kat_value.specs.declared.value.Value.TheVariants.{Bool as TruthValue};
-ghost use Rattle.kat_term.specs.Operations.{type_of_value, one_type, of_truths, of_numbers, of_parts, field_of, can_be_chosen, value_of_one, value_of_two, value_of_three};
+ghost use Rattle.kat_value.specs.Operations.{of_truths, of_numbers, of_parts, field_of, can_be_chosen, value_of_one, value_of_two, value_of_three};
+ghost use Rattle.kat_value.specs.Shown.{type_of_value, one_type};
 
 use kat_value::{Op, Ty, Value, WIDEST, apply, copy_value, is_number, same_type, same_value};
 use std::alloc::{AllocError, Global};

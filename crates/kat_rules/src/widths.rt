@@ -2,7 +2,7 @@
 
 ghost use Rattle.std.specs.Prelude.{◌≡◌, ◌+◌, ◌-◌, None, nat_le, map, slice_get, option_and_then, if◌then◌else◌};
 ghost use Rattle.kat_value.specs.Signatures.{bits_of};
-ghost use Rattle.kat_term.specs.Operations.{type_of_value};
+ghost use Rattle.kat_value.specs.Shown.{type_of_value};
 ghost use Rattle.kat_rules.specs.Widths.{told, told_at, joined, told_type, width_of, is_bool};
 
 use kat_term::{Shape, Term, shape_of};

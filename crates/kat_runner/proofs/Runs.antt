@@ -8,9 +8,9 @@ use Rattle.kat_io.specs.WriteLaws.{WritesJoin, GaveUpInMore, GaveUpAtOnce}
 use Rattle.kat_value.specs.declared.value.Value.{Value}
 use Rattle.kat_ast.specs.declared.place.Place.{Place}
 use Rattle.kat_ast.specs.Spec.{Spec}
-use Rattle.kat_syntax.specs.Tables.{Name}
+use Rattle.kat_syntax.specs.Tables.{Name, register_names}
 use Rattle.kat_syntax.specs.Machine.{MachineState, Progress}
-use Rattle.kat_syntax.specs.Cycle.{register_names, CycleOutcome, Completed, OutOfCalls, FailedAt, cycle_of}
+use Rattle.kat_syntax.specs.Cycle.{CycleOutcome, Completed, OutOfCalls, FailedAt, cycle_of}
 use Rattle.kat_syntax.specs.Run.{Cycle, Run, RunEnd, Ended, OutIn, FailedIn, with_boundary, after_cycle, run_from}
 use Rattle.kat_syntax.specs.StateText.{all_lines, changed_lines, boundary_piece, later_pieces, boundary_pieces, end_piece, joined, boundary_text_of}
 use Rattle.kat_runner.specs.Runner.{run_of_cycles, text_for_end, text_owed, EndsRun}

@@ -9,7 +9,7 @@ use crate::text::{push_boundary, push_ended, push_first_boundary};
 use kat_eval::{CycleEnd, cycle};
 use kat_io::{Sink, SinkError, writes_join};
 use kat_state::State;
-use kat_syntax::{Place, Runnable};
+use kat_syntax::{Checked, Moded, Place};
 use kat_text::{Text, TextBuilder};
 use kat_value::{Value, Values, copy_value, copy_values, same_value};
 use std::alloc::{AllocError, Global};
@@ -19,7 +19,7 @@ use std::alloc::{AllocError, Global};
 /// caller. Each cycle has `calls` calls.
 pub fn run<K: Sink>(
     alloc: Global,
-    machine: &Runnable,
+    machine: &Moded,
     state: State,
     cycles: u64,
     calls: u64,
@@ -29,7 +29,7 @@ pub fn run<K: Sink>(
         EndsRun result machine.now run (K.seen sink.old) (K.seen sink.new) }
     ensures kept { (K.seen sink.old).faults ≤ (K.seen sink.new).faults }
 {
-    match run_cycles(alloc, machine, state, cycles, calls, sink) {
+    match run_cycles(alloc, machine.checked(), state, cycles, calls, sink) {
         Ok(end) => end,
         Err(SinkError::Failed) => RunEnd::WriteFault,
         Err(SinkError::Memory) => RunEnd::Memory,
@@ -43,7 +43,7 @@ pub enum RunEnd {
     Ended,
     /// In this cycle, counted from 1, a call was made with none left.
     Out(u64),
-    /// In this cycle, counted from 1, a `fail` was run, at this place.
+    /// This cycle, counted from 1, failed, at this place.
     Failed { cycle: u64, site: Place },
     /// The sink took no more; its count of faults rose.
     WriteFault,
@@ -54,7 +54,7 @@ pub enum RunEnd {
 /// The run, whose end is never a fault; a fault is the error.
 fn run_cycles<K: Sink>(
     alloc: Global,
-    machine: &Runnable,
+    machine: &Checked,
     mut state: State,
     cycles: u64,
     calls: u64,

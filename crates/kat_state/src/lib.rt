@@ -1,8 +1,9 @@
-//! The state of a machine while it runs: a value for each register, in order of declaration.
-//! Contracts see it as the state of the meaning. It knows the first state of a machine, in which
-//! every register has the first value of its type.
+//! The state of a machine: a value for each register and a number for each cell. It starts with the
+//! first value of each type, and is read, set and written from outside without taking memory.
 #![tactic(auto)]
 
+mod first_values;
 mod state;
 
-pub use state::State;
+pub use kat_syntax::Poke;
+pub use state::{PokeError, State};

@@ -23,9 +23,9 @@ use sqlite_items::Items;
 
 /// A `case` at this tree.
 #[cycle(stm)]
-pub fn judge_case<'s, 'd, 'b>(
-    around: &'s Around<'d>,
-    scope: &'s Scope<'s, 'b>,
+pub fn judge_case<'s, 't, 'd>(
+    around: &'s Around<'t, 'd>,
+    scope: &'s Scope<'s, 't, 'd>,
     at: u32,
     value: &Expr,
     arms: &Items<CaseArm<Stm>>,
@@ -45,9 +45,9 @@ pub fn judge_case<'s, 'd, 'b>(
 }
 
 #[cycle(stm)]
-fn judge_case_arms<'s, 'd, 'b>(
-    around: &'s Around<'d>,
-    scope: &'s Scope<'s, 'b>,
+fn judge_case_arms<'s, 't, 'd>(
+    around: &'s Around<'t, 'd>,
+    scope: &'s Scope<'s, 't, 'd>,
     at: u32,
     arms: &Items<CaseArm<Stm>>,
     faults: &mut Faults,
@@ -71,9 +71,9 @@ fn judge_case_arms<'s, 'd, 'b>(
 
 /// A `match` at this tree.
 #[cycle(stm)]
-pub fn judge_match<'s, 'd, 'b>(
-    around: &'s Around<'d>,
-    scope: &'s Scope<'s, 'b>,
+pub fn judge_match<'s, 't, 'd>(
+    around: &'s Around<'t, 'd>,
+    scope: &'s Scope<'s, 't, 'd>,
     at: u32,
     value: &Expr,
     arms: &Items<MatchArm<Stm>>,
@@ -93,9 +93,9 @@ pub fn judge_match<'s, 'd, 'b>(
 }
 
 #[cycle(stm)]
-fn judge_match_arms<'s, 'd, 'b>(
-    around: &'s Around<'d>,
-    scope: &'s Scope<'s, 'b>,
+fn judge_match_arms<'s, 't, 'd>(
+    around: &'s Around<'t, 'd>,
+    scope: &'s Scope<'s, 't, 'd>,
     at: u32,
     arms: &Items<MatchArm<Stm>>,
     faults: &mut Faults,
@@ -117,9 +117,9 @@ fn judge_match_arms<'s, 'd, 'b>(
 
 /// An arm of a `match` at this tree, and what is known of its body.
 #[cycle(stm)]
-fn judge_match_arm<'s, 'd, 'b>(
-    around: &'s Around<'d>,
-    scope: &'s Scope<'s, 'b>,
+fn judge_match_arm<'s, 't, 'd>(
+    around: &'s Around<'t, 'd>,
+    scope: &'s Scope<'s, 't, 'd>,
     at: u32,
     arm: &MatchArm<Stm>,
     faults: &mut Faults,
@@ -156,7 +156,7 @@ fn may_be_union(ty: Option<Ty>) -> bool
 }
 
 /// Whether arms list the members of a type that is an enum, where it is known to be one.
-fn lists_enum(around: &Around<'_>, ty: Option<Ty>, arms: &[CaseArm<Stm>]) -> bool
+fn lists_enum(around: &Around<'_, '_>, ty: Option<Ty>, arms: &[CaseArm<Stm>]) -> bool
     ensures { result ≡ are_listed (members_wanted around.now ty)
         (map (λ (arm : CaseArm Stm). arm.member) arms.now) }
 {
@@ -167,7 +167,7 @@ fn lists_enum(around: &Around<'_>, ty: Option<Ty>, arms: &[CaseArm<Stm>]) -> boo
 }
 
 /// Whether arms list the constructors of a type that is a union, where it is known to be one.
-fn lists_union(around: &Around<'_>, ty: Option<Ty>, arms: &[MatchArm<Stm>]) -> bool
+fn lists_union(around: &Around<'_, '_>, ty: Option<Ty>, arms: &[MatchArm<Stm>]) -> bool
     ensures { result ≡ are_listed (ctors_wanted around.now ty)
         (map (λ (arm : MatchArm Stm). arm.ctor) arms.now) }
 {

@@ -24,9 +24,9 @@ use sqlite_items::Items;
 
 /// Notes the faults of a statement that stands at this tree.
 #[cycle(stm)]
-pub fn judge_stm<'s, 'd, 'b>(
-    around: &'s Around<'d>,
-    scope: &'s Scope<'s, 'b>,
+pub fn judge_stm<'s, 't, 'd>(
+    around: &'s Around<'t, 'd>,
+    scope: &'s Scope<'s, 't, 'd>,
     at: u32,
     stm: &Stm,
     faults: &mut Faults,
@@ -62,9 +62,9 @@ pub fn judge_stm<'s, 'd, 'b>(
     }
 }
 
-fn judge_ret<'s, 'd, 'b>(
-    around: &'s Around<'d>,
-    scope: &'s Scope<'s, 'b>,
+fn judge_ret<'s, 't, 'd>(
+    around: &'s Around<'t, 'd>,
+    scope: &'s Scope<'s, 't, 'd>,
     at: u32,
     value: &Expr,
     faults: &mut Faults,
@@ -78,9 +78,9 @@ fn judge_ret<'s, 'd, 'b>(
 }
 
 #[cycle(stm)]
-fn judge_let<'s, 'd, 'b>(
-    around: &'s Around<'d>,
-    scope: &'s Scope<'s, 'b>,
+fn judge_let<'s, 't, 'd>(
+    around: &'s Around<'t, 'd>,
+    scope: &'s Scope<'s, 't, 'd>,
     at: u32,
     name: &Text,
     first: &Stm,
@@ -99,9 +99,9 @@ fn judge_let<'s, 'd, 'b>(
 }
 
 #[cycle(stm)]
-fn judge_seq<'s, 'd, 'b>(
-    around: &'s Around<'d>,
-    scope: &'s Scope<'s, 'b>,
+fn judge_seq<'s, 't, 'd>(
+    around: &'s Around<'t, 'd>,
+    scope: &'s Scope<'s, 't, 'd>,
     at: u32,
     parts: &Items<Stm>,
     faults: &mut Faults,
@@ -119,9 +119,9 @@ fn judge_seq<'s, 'd, 'b>(
 }
 
 #[cycle(stm)]
-fn judge_if<'s, 'd, 'b>(
-    around: &'s Around<'d>,
-    scope: &'s Scope<'s, 'b>,
+fn judge_if<'s, 't, 'd>(
+    around: &'s Around<'t, 'd>,
+    scope: &'s Scope<'s, 't, 'd>,
     at: u32,
     test: &Expr,
     then: &Stm,
@@ -141,7 +141,7 @@ fn judge_if<'s, 'd, 'b>(
     Known::new(tested + branches.trees, branches.ty())
 }
 
-fn judge_read(around: &Around<'_>, at: u32, register: &Text, faults: &mut Faults) -> Known
+fn judge_read(around: &Around<'_, '_>, at: u32, register: &Text, faults: &mut Faults) -> Known
     requires { at + 3 < 2 ^ 32 }
     ensures { (scope : written.Scope) →
         Tells (known_of_stm around.now (stm.Read register.now) scope) at
@@ -151,9 +151,9 @@ fn judge_read(around: &Around<'_>, at: u32, register: &Text, faults: &mut Faults
     Known::new(3, around.type_of_register(register))
 }
 
-fn judge_write<'s, 'd, 'b>(
-    around: &'s Around<'d>,
-    scope: &'s Scope<'s, 'b>,
+fn judge_write<'s, 't, 'd>(
+    around: &'s Around<'t, 'd>,
+    scope: &'s Scope<'s, 't, 'd>,
     at: u32,
     register: &Text,
     value: &Expr,
@@ -168,9 +168,9 @@ fn judge_write<'s, 'd, 'b>(
     Known::new(trees, Some(Ty::Unit))
 }
 
-fn judge_load<'s, 'd, 'b>(
-    around: &'s Around<'d>,
-    scope: &'s Scope<'s, 'b>,
+fn judge_load<'s, 't, 'd>(
+    around: &'s Around<'t, 'd>,
+    scope: &'s Scope<'s, 't, 'd>,
     at: u32,
     index: &Expr,
     faults: &mut Faults,
@@ -185,9 +185,9 @@ fn judge_load<'s, 'd, 'b>(
     Known::new(2 + known.trees, around.cell_type())
 }
 
-fn judge_store<'s, 'd, 'b>(
-    around: &'s Around<'d>,
-    scope: &'s Scope<'s, 'b>,
+fn judge_store<'s, 't, 'd>(
+    around: &'s Around<'t, 'd>,
+    scope: &'s Scope<'s, 't, 'd>,
     at: u32,
     index: &Expr,
     value: &Expr,
@@ -202,9 +202,9 @@ fn judge_store<'s, 'd, 'b>(
     Known::new(trees, Some(Ty::Unit))
 }
 
-fn judge_call<'s, 'd, 'b>(
-    around: &'s Around<'d>,
-    scope: &'s Scope<'s, 'b>,
+fn judge_call<'s, 't, 'd>(
+    around: &'s Around<'t, 'd>,
+    scope: &'s Scope<'s, 't, 'd>,
     at: u32,
     function: &Text,
     args: &Items<Expr>,
@@ -227,9 +227,9 @@ fn judge_call<'s, 'd, 'b>(
     }
 }
 
-fn judge_check<'s, 'd, 'b>(
-    around: &'s Around<'d>,
-    scope: &'s Scope<'s, 'b>,
+fn judge_check<'s, 't, 'd>(
+    around: &'s Around<'t, 'd>,
+    scope: &'s Scope<'s, 't, 'd>,
     at: u32,
     test: &Expr,
     faults: &mut Faults,
@@ -243,9 +243,9 @@ fn judge_check<'s, 'd, 'b>(
 }
 
 /// `(open p e ..)` or `(close p e ..)`
-fn judge_predicate<'s, 'd, 'b>(
-    around: &'s Around<'d>,
-    scope: &'s Scope<'s, 'b>,
+fn judge_predicate<'s, 't, 'd>(
+    around: &'s Around<'t, 'd>,
+    scope: &'s Scope<'s, 't, 'd>,
     at: u32,
     predicate: &Text,
     inputs: &Items<Expr>,
@@ -272,9 +272,9 @@ fn judge_predicate<'s, 'd, 'b>(
     Known::new(trees, Some(Ty::Unit))
 }
 
-fn judge_lemma<'s, 'd, 'b>(
-    around: &'s Around<'d>,
-    scope: &'s Scope<'s, 'b>,
+fn judge_lemma<'s, 't, 'd>(
+    around: &'s Around<'t, 'd>,
+    scope: &'s Scope<'s, 't, 'd>,
     at: u32,
     lemma: &Text,
     args: &Items<Expr>,

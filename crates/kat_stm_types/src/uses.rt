@@ -83,8 +83,8 @@ pub fn judge_register_value(
 pub fn judge_use(
     setting: &Setting<'_, '_, '_>,
     at: u32,
-    found: Option<&ProofSeen<'_>>,
-    wanted: Option<&Params<'_>>,
+    found: Option<&ProofSeen<'_, '_>>,
+    wanted: Option<&Params<'_, '_>>,
     args: &Items<Expr>,
     faults: &mut Faults,
 ) -> u32

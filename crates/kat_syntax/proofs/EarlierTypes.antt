@@ -307,7 +307,7 @@ walk_step all k p decl decls before walks long whole known clean
     (subst (IsKnown types p (type_heads all)) heads known) (here at)) clean))
 
 -- what a declaration's own faults are, behind those of its names and its limits
-inner_clean : (all : List DeclForm) (k : ℕ) (decl : DeclForm) →
+pub inner_clean : (all : List DeclForm) (k : ℕ) (decl : DeclForm) →
     decl_faults (record { decls = all; number = k }) decl ≡ [] →
     inner_faults (record { decls = all; number = k }) decl ≡ []
 inner_clean all k decl e =

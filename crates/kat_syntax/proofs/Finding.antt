@@ -26,13 +26,13 @@ same_either_way x y =
     (λ e. (bytes_eq-Decides x y).1 (sym ((bytes_eq-Decides y x).0 e)))
 
 -- both sides of a comparison one higher
-both_further : (m l : ℕ) → nat_lt (suc m) (suc l) ≡ nat_lt m l
+pub both_further : (m l : ℕ) → nat_lt (suc m) (suc l) ≡ nat_lt m l
 both_further m l =
     one_truth (nat_lt (suc m) (suc l)) (nat_lt m l)
     (λ e. grind (arith, nat_tests)) (λ e. grind (arith, nat_tests))
 
 -- zero is below what is one more
-first_below : (l : ℕ) → nat_lt 0 (suc l) ≡ true
+pub first_below : (l : ℕ) → nat_lt 0 (suc l) ≡ true
 first_below l = grind (arith, nat_tests)
 
 -- a place one further in a list that is one longer
@@ -116,7 +116,7 @@ added_again {A = A} names items name item i paired at =
     ap (λ (b : Bool). if b then all else more) (sym there)
 
 -- a list without its first item
-abbrev rest_of : {A : Type 0} → List A → List A
+abbrev pub rest_of : {A : Type 0} → List A → List A
 rest_of [] = []
 rest_of (x ∷ xs) = xs
 

@@ -94,7 +94,8 @@ from_here all k p decl form within is seen =
 
 -- a declaration that declares no type
 pub next_none : (all : List DeclForm) (k p : ℕ) (decl form : DeclForm)
-    (named : List (Item DeclaredType)) (numbers : List ℕ) → SoFar all k named numbers → k < length all → decl ≡ get_or all k decl →
+    (named : List (Item DeclaredType)) (numbers : List ℕ) → SoFar all k named numbers →
+    k < length all → decl ≡ get_or all k decl →
     form ≡ decl → p ≡ length numbers → type_declared p form ≡ None →
     SoFar all (k + 1) named numbers
 next_none all k p decl form named numbers so within is seen same none = record {

@@ -1,14 +1,23 @@
-pub mod Firsts
-pub mod MeaningLaws
-pub mod TypingLaws
-pub mod Functions
-pub mod Registers
-pub mod FirstFaults
-pub mod NoFaults
-pub mod BothExpressions
-pub mod BothStatements
-pub mod BothNames
-pub mod BothTypings
-pub mod EarlierTypes
-pub mod Finding
-pub mod Heading
+mod ChangedPlaces
+mod CycleTrees
+mod EarlierTypes
+mod EnoughDepth
+mod FailurePlaces
+mod Finding
+mod FirstFaults
+mod FunctionPlaces
+mod Heading
+mod KeptRelations
+mod KeptStates
+mod MeaningExamples
+mod MoreCalls
+mod NoFaults
+mod Positions
+mod RefusedWrites
+mod ShownExpressions
+mod ShownStatements
+mod SideBySide
+mod SpentCalls
+mod StatementParts
+mod TableSteps
+mod TypedDeclarations

@@ -1,45 +1,36 @@
--- One cycle of a machine: a call of its step function.
-use Rattle.std.specs.Prelude.{ℕ, zero, suc, List, [], ◌∷◌, map, Option, Some, None}
+-- Calls of functions, and one cycle of a machine: a call of its step function.
+use Rattle.std.specs.Prelude.{ℕ, zero, suc, List, [], ◌∷◌, length, Option, None, Some, unwrap_or}
+use Rattle.std.specs.Option.{option_map}
 use Rattle.kat_value.specs.declared.value.Value.{Value}
-use Rattle.kat_value.specs.declared.value.Value.TheVariants.{Unit as UnitValue}
 use Rattle.kat_ast.specs.declared.place.Place.{Place}
 use Rattle.kat_ast.specs.declared.type_name.Param.{Param}
 use Rattle.kat_ast.specs.declared.decl.DeclForm.{DeclForm}
+use Rattle.kat_ast.specs.declared.stm.Stm.{Stm}
 use Rattle.kat_ast.specs.Spec.{Spec}
-use Rattle.kat_syntax.specs.Tables.{Name, RegisterDecl, registers_of, Function, function_from, step_name_of}
+use Rattle.kat_syntax.specs.Tables.{Function, function_from, step_of, step_function_of}
 use Rattle.kat_syntax.specs.Machine.{MachineState, Progress}
-use Rattle.kat_syntax.specs.Meaning.{Locals, Site, Here, There, Outcome, Done, Out, Fail, inside, Calls, meaning}
+use Rattle.kat_syntax.specs.Evaluation.{Locals}
+use Rattle.kat_syntax.specs.Outcomes.{Outcome, Done, Out, Fail, Stuck, StmSite, given, at_site, inside, place_in}
+use Rattle.kat_syntax.specs.Meaning.{Calls, meaning}
 
--- the names of the registers
-abbrev pub register_names : List DeclForm → List Name
-register_names decls = map (λ (register : RegisterDecl). register.name) (registers_of decls)
+-- each parameter with its argument, where there are as many. An argument of another type than its
+-- parameter is bound all the same: what is of the wrong type is stuck where it is used, if at all
+abbrev pub bound : List Param → List Value → Option Locals
+bound [] [] = Some []
+bound [] (value ∷ values) = None
+bound (param ∷ params) [] = None
+bound (param ∷ params) (value ∷ values) =
+    option_map (λ locals. (param.name, value) ∷ locals) (bound params values)
 
--- each parameter with its argument
-abbrev pub bound : List Param → List Value → Locals
-bound (param ∷ params) (value ∷ values) = (param.name, value) ∷ bound params values
-bound _ _ = []
-
--- a site seen from outside the declaration in which it arose
-abbrev pub place_in : ℕ → Site → Place
-place_in decl (Here tree) = record { decl = decl; tree = tree }
-place_in decl (There place) = place
-
--- the outcome of a body, as that of a call: a failure stands in the declaration of this number
-abbrev pub elsewhere : ℕ → Outcome → Outcome
-elsewhere decl (Done value progress) = Done value progress
-elsewhere decl Out = Out
-elsewhere decl (Fail site) = Fail (There (place_in decl site))
-
--- what the body of a function does with these arguments
-abbrev pub body_of : List Name → Calls → Option Function → List Value → Progress → Outcome
-body_of names calls None args progress = Done UnitValue progress
-body_of names calls (Some function) args progress =
-    elsewhere function.decl
-    (inside function.body_at
-    (meaning names calls function.body (bound function.params args) progress))
+-- what the body of a function does with these arguments; its failures stand in its declaration
+abbrev pub body_of : List DeclForm → Calls → List Value → Progress → Function → Outcome Place
+body_of decls calls args progress function =
+    given (bound function.params args)
+    (λ locals. at_site (place_in function.decl)
+    (inside function.body_at (meaning decls calls function.body locals progress)))
 
 -- one call is spent; with none left the outcome is Out
-abbrev pub spend_one : ℕ → Progress → (Progress → Outcome) → Outcome
+abbrev pub spend_one : ℕ → Progress → (Progress → Outcome Place) → Outcome Place
 spend_one zero progress go = Out
 spend_one (suc left) progress go = go (record progress { left = left })
 
@@ -49,7 +40,16 @@ abbrev pub call_of : List DeclForm → ℕ → Calls
 call_of decls zero f args progress = Out
 call_of decls (suc depth) f args progress =
     spend_one progress.left progress
-    (body_of (register_names decls) (call_of decls depth) (function_from 0 decls f) args)
+    (λ next. given (function_from 0 decls f) (body_of decls (call_of decls depth) args next))
+
+-- what there is before anything is done, with n calls allowed
+abbrev pub progress_at : ℕ → MachineState → Progress
+progress_at n state = record { state = state; left = n; stores = [] }
+
+-- what a statement does among these locals in a state, with n calls allowed
+abbrev pub eval_of : Spec → ℕ → Stm → Locals → MachineState → Outcome StmSite
+eval_of spec n stm locals state =
+    meaning spec.decls (call_of spec.decls n) stm locals (progress_at n state)
 
 -- how a cycle ends
 pub data CycleOutcome : Type 0 where
@@ -57,17 +57,26 @@ pub data CycleOutcome : Type 0 where
   OutOfCalls : CycleOutcome
   FailedAt : (place : Place) → CycleOutcome
 
--- the outcome of a call as that of a cycle; the failure of a call stands in a declaration
-abbrev pub as_cycle : Outcome → CycleOutcome
-as_cycle (Done value progress) = Completed progress
-as_cycle Out = OutOfCalls
-as_cycle (Fail site) = FailedAt (place_in 0 site)
+-- where a cycle fails that is stuck: at the declaration of the step function
+abbrev pub stuck_place : List DeclForm → Place
+stuck_place decls = record {
+  decl = unwrap_or (option_map (λ (function : Function). function.decl) (step_function_of decls))
+      (length decls);
+  tree = 0;
+}
 
--- what a cycle has before it begins, with n calls allowed
-abbrev pub progress_at : ℕ → MachineState → Progress
-progress_at n state = record { state = state; left = n; stores = [] }
+-- the outcome of a call as that of a cycle: one that is stuck is a failure at this place
+abbrev pub as_cycle : Place → Outcome Place → CycleOutcome
+as_cycle stuck (Done value progress) = Completed progress
+as_cycle stuck Out = OutOfCalls
+as_cycle stuck (Fail place) = FailedAt place
+as_cycle stuck Stuck = FailedAt stuck
+
+-- what the call of the step function does, with n calls allowed
+abbrev pub step_call : Spec → ℕ → MachineState → Outcome Place
+step_call spec n state =
+    given (step_of spec.decls) (λ f. call_of spec.decls n f [] (progress_at n state))
 
 -- one cycle with n calls allowed
 abbrev pub cycle_of : Spec → ℕ → MachineState → CycleOutcome
-cycle_of spec n state =
-    as_cycle (call_of spec.decls n (step_name_of spec.decls) [] (progress_at n state))
+cycle_of spec n state = as_cycle (stuck_place spec.decls) (step_call spec n state)

@@ -2,10 +2,11 @@
 use Rattle.std.specs.Prelude.{ℕ, List}
 use Rattle.kat_value.specs.declared.value.Value.{Value}
 
--- a value for each register, in order of declaration, and a number for each cell of the memory,
--- from its first index on
+-- a value for each register, in order of declaration, and a number for each cell of the memory; the
+-- first cell has the index lo
 pub record MachineState : Type 0 where
   pub registers : List Value
+  pub lo : ℕ
   pub cells : List ℕ
 
 -- what a running cycle has: the state, the calls that are left, and the indices that were stored,

@@ -1,8 +1,9 @@
 -- The memory of a specification, the ranges of its cells, and the counts that have limits.
-use Rattle.std.specs.Prelude.{ℕ, ◌+◌, ◌-◌, ◌^◌, ◌&&◌, max, min, Bool, true, false, nat_le, nat_lt, if◌then◌else◌, List, [], ◌∷◌, length, take, sum_by, filter_map, Option, None, Some, option_and_then}
+use Rattle.std.specs.Prelude.{◌≡◌, ℕ, ◌+◌, ◌-◌, ◌^◌, ◌&&◌, max, min, Bool, true, false, nat_le, nat_lt, if◌then◌else◌, List, [], ◌∷◌, length, take, sum_by, filter_map, Option, None, Some, option_and_then}
 use Rattle.std.specs.List.{list_any}
 use Rattle.kat_value.specs.declared.types.Ty.{Ty}
 use Rattle.kat_value.specs.Signatures.{bits_of}
+use Rattle.kat_value.specs.Widths.{is_width}
 use Rattle.kat_ast.specs.declared.decl.RegisterKind.TheVariants as register
 use Rattle.kat_ast.specs.declared.decl.CellsKind.{CellsKind}
 use Rattle.kat_ast.specs.declared.decl.CellsKind.TheVariants as cells
@@ -52,6 +53,12 @@ kept_cell_type around = option_and_then (λ memory. bits_of memory.cell_width) (
 abbrev pub has_bounds : ℕ → ℕ → ℕ → Bool
 has_bounds index_width lo hi =
     nat_lt lo hi && (nat_le hi (2 ^ index_width) && nat_le (hi - lo) most_cells)
+
+-- a memory whose indices and cells have widths, and whose bounds its indices reach
+pub record IsMemory (memory : Memory) : Type 0 where
+  pub index : is_width memory.index_width ≡ true
+  pub cell : is_width memory.cell_width ≡ true
+  pub bounds : has_bounds memory.index_width memory.lo memory.hi ≡ true
 
 -- the cells from lo to hi - 1 that a declaration has, and whether they are protected
 pub record Range : Type 0 where

@@ -1,59 +1,27 @@
 -- A run: cycles, with outside writes between them.
-use Rattle.std.specs.Prelude.{ℕ, ◌+◌, ◌==◌, ◌&&◌, if◌then◌else◌, List, [], ◌∷◌, Option, Some, None, slice_get, unwrap_or}
-use Rattle.kat_value.specs.declared.value.Value.TheVariants.{Bits as Number}
-use Rattle.kat_value.specs.Operations.{is_number}
+use Rattle.std.specs.Prelude.{ℕ, Bool, true, ◌+◌, List, [], ◌∷◌}
 use Rattle.kat_ast.specs.declared.place.Place.{Place}
 use Rattle.kat_ast.specs.Spec.{Spec}
-use Rattle.kat_ast.specs.declared.type_name.TypeName.{TypeName}
-use Rattle.kat_ast.specs.declared.type_name.TypeName.TheVariants.{Bits}
-use Rattle.kat_ast.specs.declared.decl.RegisterKind.{RegisterKind}
-use Rattle.kat_ast.specs.declared.decl.RegisterKind.TheVariants.{Outside}
-use Rattle.kat_syntax.specs.Tables.{RegisterDecl, registers_of}
 use Rattle.kat_syntax.specs.Machine.{MachineState}
-use Rattle.kat_syntax.specs.Meaning.{set_register}
 use Rattle.kat_syntax.specs.Cycle.{CycleOutcome, Completed, OutOfCalls, FailedAt, cycle_of}
-
--- an outside write: of a number, to the outside place of this ordinal in order of declaration, at
--- this offset in it
-pub record Poke : Type 0 where
-  pub ordinal : ℕ
-  pub offset : ℕ
-  pub bits : ℕ
+use Rattle.kat_syntax.specs.declared.places.Poke.{Poke}
+use Rattle.kat_syntax.specs.OutsideWrites.{Poked, Wrote, NoPlace, NoFit, is_declared_write, poked}
 
 -- what happens at once
 pub data Event : Type 0 where
   Cycle : Event
   OutsideWrite : (poke : Poke) → Event
 
--- the outside register at this position, of this width
-pub record OutsideRegister : Type 0 where
-  pub at : ℕ
-  pub width : ℕ
+-- an event list is empty or begins with a cycle
+abbrev pub IsEventList : List Event → Type 0
+IsEventList [] = Unit {0}
+IsEventList (Cycle ∷ events) = Unit {0}
+IsEventList (OutsideWrite poke ∷ events) = ⊥
 
--- a register before the outside ones that follow it
-abbrev pub with_outside : ℕ → RegisterKind → TypeName → List OutsideRegister → List OutsideRegister
-with_outside at Outside (Bits width) places = record { at = at; width = width } ∷ places
-with_outside at _ _ places = places
-
--- the outside registers, the first register having the position k
-abbrev pub outside_from : ℕ → List RegisterDecl → List OutsideRegister
-outside_from k [] = []
-outside_from k (register ∷ registers) =
-    with_outside k register.kind register.type (outside_from (k + 1) registers)
-
--- the write of a number that fits to one outside register
-abbrev pub poked_register : Option OutsideRegister → ℕ → ℕ → MachineState → Option MachineState
-poked_register None offset bits state = None
-poked_register (Some place) offset bits state =
-    if (offset == 0) && is_number place.width bits
-    then Some (set_register (Some place.at) (Number place.width bits) state)
-    else None
-
--- the state after an outside write; none where there is no such place or the number does not fit
-abbrev pub poked : Spec → Poke → MachineState → Option MachineState
-poked spec poke state =
-    let place = slice_get (outside_from 0 (registers_of spec.decls)) poke.ordinal in
-    poked_register place poke.offset poke.bits state
+-- whether an event is a cycle, or a write of a number that fits to a declared outside place
+abbrev pub is_declared_event : Spec → Event → Bool
+is_declared_event spec Cycle = true
+is_declared_event spec (OutsideWrite poke) = is_declared_write spec poke
 
 -- how a run ends: after the last event, or in the cycle of this number, counted from 1
 pub data RunEnd : Type 0 where
@@ -78,16 +46,21 @@ after_cycle k (Completed progress) go = go progress.state
 after_cycle k OutOfCalls go = record { boundaries = []; end = OutIn k }
 after_cycle k (FailedAt place) go = record { boundaries = []; end = FailedIn k place }
 
--- from a state on, k cycles having been made, and each cycle having n calls. A write that is
--- refused changes nothing
+-- the state behind an outside write, which changes nothing where it is refused
+abbrev pub state_behind : MachineState → Poked → MachineState
+state_behind before (Wrote state) = state
+state_behind before NoPlace = before
+state_behind before NoFit = before
+
+-- from a state on, k cycles having been made, and each cycle having n calls
 abbrev pub run_from : Spec → ℕ → ℕ → MachineState → List Event → Run
 run_from spec n k state [] = record { boundaries = state ∷ []; end = Ended }
 run_from spec n k state (Cycle ∷ events) =
     with_boundary state
     (after_cycle (k + 1) (cycle_of spec n state) (λ next. run_from spec n (k + 1) next events))
 run_from spec n k state (OutsideWrite poke ∷ events) =
-    run_from spec n k (unwrap_or (poked spec poke state) state) events
+    run_from spec n k (state_behind state (poked spec poke state)) events
 
--- a run from a start over a list of events, which is empty or begins with a cycle
+-- a run from a start over a list of events
 abbrev pub run_of : Spec → ℕ → MachineState → List Event → Run
 run_of spec n start events = run_from spec n 0 start events

@@ -7,9 +7,8 @@ use Rattle.kat_value.specs.declared.value.Value.{Value}
 use Rattle.kat_value.specs.declared.value.Value.TheVariants.{Unit, Bool as Truth, Bits}
 use Rattle.kat_value.specs.Equality.{value_eq}
 use Rattle.kat_ast.specs.Spec.{Spec}
-use Rattle.kat_syntax.specs.Tables.{Name}
 use Rattle.kat_syntax.specs.Machine.{MachineState}
-use Rattle.kat_syntax.specs.Cycle.{register_names}
+use Rattle.kat_syntax.specs.Tables.{Name, register_names}
 use Rattle.kat_syntax.specs.Run.{Run, RunEnd, Ended, OutIn, FailedIn}
 
 -- bits have as many digits as a quarter of the width, rounded up

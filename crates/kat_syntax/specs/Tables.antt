@@ -1,5 +1,5 @@
 -- What the declarations of a specification name, in order of declaration.
-use Rattle.std.specs.Prelude.{ℕ, Bool, false, ◌+◌, if◌then◌else◌, List, [], ◌∷◌, Option, Some, None, unwrap_or}
+use Rattle.std.specs.Prelude.{ℕ, Bool, false, ◌+◌, if◌then◌else◌, List, [], ◌∷◌, map, Option, Some, None, option_and_then}
 use Rattle.std.specs.Str.{bytes_eq}
 use Rattle.kat_ast.specs.declared.type_name.Param.{Param}
 use Rattle.kat_ast.specs.declared.type_name.TypeName.{TypeName}
@@ -25,6 +25,10 @@ registers_of [] = []
 registers_of (Register x type kind ∷ decls) =
     record { name = x; type = type; kind = kind } ∷ registers_of decls
 registers_of (_ ∷ decls) = registers_of decls
+
+-- the names of the registers, in order of declaration
+abbrev pub register_names : List DeclForm → List Name
+register_names decls = map (λ (register : RegisterDecl). register.name) (registers_of decls)
 
 -- a declared function, with the numbers of its declaration and of its body's tree
 pub record Function : Type 0 where
@@ -61,10 +65,6 @@ step_of [] = None
 step_of (Step f ∷ decls) = Some f
 step_of (_ ∷ decls) = step_of decls
 
--- that name, empty where there is none
-abbrev pub step_name_of : List DeclForm → Name
-step_name_of decls = unwrap_or (step_of decls) []
-
--- the function that a cycle calls
+-- the function that a cycle calls, if there is one
 abbrev pub step_function_of : List DeclForm → Option Function
-step_function_of decls = function_from 0 decls (step_name_of decls)
+step_function_of decls = option_and_then (function_from 0 decls) (step_of decls)

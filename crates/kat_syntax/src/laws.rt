@@ -1,44 +1,73 @@
-//! What holds of meanings and of specifications without faults of typing. A function here does
-//! nothing: its contract is the law.
+//! What holds of meanings, of runs, and of specifications without faults of typing. A function here
+//! does nothing: its contract is the law.
 
-ghost use Rattle.std.specs.Prelude.{◌≡◌, true, MatchOption};
+ghost use Rattle.std.specs.Prelude.{MatchOption};
 ghost use Rattle.kat_ast.specs.Spec.{Spec};
-ghost use Rattle.kat_syntax.specs.MeaningByParts.{LetByParts, IfByParts, PartsAreCounted};
-ghost use Rattle.kat_syntax.specs.FirstForm.{are_first_decls};
 ghost use Rattle.kat_syntax.specs.TypeTable.{NamesEarlierTypes, types_of_decls};
 ghost use Rattle.kat_syntax.specs.FirstTypeFault.{IsTyped, IsFirstTypeFault, first_type_fault};
-ghost use Rattle.kat_syntax.specs.Runnable.{IsTypedAsFirstForm, IsRunnable, HasCleanDecls, HasDistinctRegisters, HasStepFunction};
+ghost use Rattle.kat_syntax.specs.MeaningLaws.{StatementsByParts, DepthIsEnough, LeftNeverRises, StatementsChangeWhatTheyWrite, OutsideWritesChangeOnePlace, MoreCallsChangeNoOutcome, StuckCyclesFailAtADeclaration, ValuesStayShown, RefusedWritesChangeNothing, StatesStay, CyclesFailAtTrees};
 
-/// What a `let` or an `if` does is what its parts do: the first statement and then the second, or
-/// one of the two. A failure stands in the whole behind what stands before its part, and a part is
-/// counted for as many trees as it has.
+use kat_ast::places_are_of_the_tree;
+use kat_value::{operations_are_exact, types_of_values, values_show_types};
+
+/// What a statement does is what its form does of what its parts do, and a part is counted for as
+/// many trees as it has.
 pub fn statements_do_their_parts()
-    ensures let_form { LetByParts }
-    ensures if_form { IfByParts }
-    ensures counts { PartsAreCounted }
+    ensures { StatementsByParts }
 {}
 
-/// A specification without faults of typing has none inside a declaration, and its registers have
-/// distinct names. One that can be run has no more declarations than it may, a step declaration,
-/// and the function that it names, which has no parameters.
-pub fn typed_specifications_have_tables()
-    ensures decls { (spec : Spec) → IsTypedAsFirstForm spec → HasCleanDecls spec }
-    ensures registers { (spec : Spec) → IsTypedAsFirstForm spec → HasDistinctRegisters spec }
-    ensures step { (spec : Spec) → IsRunnable spec → HasStepFunction spec }
+/// The depth of calls in one another is bounded by the calls that are left: more changes nothing.
+pub fn depth_is_enough()
+    ensures { DepthIsEnough }
 {}
+
+/// Calls are spent and never given back; more of them change no outcome but that of having run out.
+pub fn calls_are_spent()
+    ensures left { LeftNeverRises }
+    ensures more { MoreCallsChangeNoOutcome }
+{}
+
+/// A statement changes the registers that are written and the cells that were stored, and an
+/// outside write changes its place; a write that is refused changes nothing.
+pub fn what_changes()
+    ensures statements { StatementsChangeWhatTheyWrite }
+    ensures outside { OutsideWritesChangeOnePlace }
+    ensures refused { RefusedWritesChangeNothing }
+{}
+
+/// A cycle that is stuck fails at its step function's declaration, and no other failure stands
+/// there.
+pub fn stuck_cycles_fail()
+    ensures { StuckCyclesFailAtADeclaration }
+{}
+
+/// Values are of the types that they show, typed or not, where those before are.
+pub fn values_stay_shown()
+    ensures { ValuesStayShown }
+{
+    operations_are_exact();
+    values_show_types();
+    types_of_values();
+}
+
+/// A state of the machine stays one behind a statement, a cycle and an outside write, typed or not.
+pub fn states_stay()
+    ensures { StatesStay }
+{}
+
+/// A cycle fails at a tree that a declaration may have, of a declaration or behind the last one.
+pub fn cycles_fail_at_trees()
+    ensures { CyclesFailAtTrees }
+{
+    places_are_of_the_tree();
+    statements_do_their_parts();
+}
 
 /// The first fault of a specification is the least, by tree and condition, of the first declaration
 /// that has any; where there is none, the specification is typed.
 pub fn first_faults_are_least()
     ensures { (spec : Spec) →
         MatchOption (first_type_fault spec) (IsTyped spec) (IsFirstTypeFault spec) }
-{}
-
-/// A typed specification can be run where its declarations are all of forms that can be run: the
-/// typing of those forms finds no fault where the whole typing finds none.
-pub fn typed_first_forms_can_be_run()
-    ensures { (spec : Spec) →
-        IsTyped spec → are_first_decls spec.decls ≡ true → IsRunnable spec }
 {}
 
 /// In the table of types of a typed specification each constructor's payload and each field is unit,

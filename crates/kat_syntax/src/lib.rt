@@ -1,35 +1,36 @@
 //! What a specification means, in `specs/`: typing, the meaning of expressions and statements, one
 //! cycle of the machine, a run over a list of events, and the text of a run's states. A typed
-//! specification stands with the table of its declared types, one that can be run with the tables
-//! that a cycle needs. The forms themselves are those of `kat_ast`, passed on here.
+//! specification stands with the table of its declared types and with those in which a cycle looks
+//! names up. The forms themselves are those of `kat_ast`, passed on here.
 #![tactic(auto)]
 
 mod checked;
 mod declared_types;
-mod forms;
 mod laws;
 mod limits;
 mod moded;
 mod named;
-mod runnable;
-mod tables;
+mod places;
+mod run_tables;
 mod type_rule;
 mod type_table;
 
-pub use checked::Checked;
+pub use checked::{Checked, FunctionSeen};
 pub use declared_types::{DeclaredType, DeclaredTypes, is_type_decl};
-pub use forms::are_first_decls;
 pub use kat_ast::{
     Assertion, Block, CaseArm, CellsKind, Decl, DeclForm, Expr, MatchArm, Op, Param, Phase, Place,
-    RegisterKind, Spec, Stm, TypeName, When, count_expr, count_stm, one_form, one_reading,
-    places_are_of_the_tree, specifications_can_be_written,
+    RegisterKind, Spec, Stm, TypeName, When, count_case_arms, count_expr, count_match_arms,
+    count_stm, count_stms, one_form, one_reading, places_are_of_the_tree,
+    specifications_can_be_written,
 };
 pub use laws::{
-    first_faults_are_least, statements_do_their_parts, typed_first_forms_can_be_run,
-    typed_specifications_have_tables, types_name_earlier_ones,
+    calls_are_spent, cycles_fail_at_trees, depth_is_enough, first_faults_are_least,
+    statements_do_their_parts, states_stay, stuck_cycles_fail, types_name_earlier_ones,
+    values_stay_shown, what_changes,
 };
 pub use limits::MOST_DECLARATIONS;
 pub use moded::Moded;
 pub use named::Named;
-pub use runnable::{Runnable, StepFunction};
+pub use places::{Memory, OutsidePlace, Poke};
+pub use run_tables::CtorPlace;
 pub use type_rule::TypeRule;

@@ -47,12 +47,4 @@ impl Moded {
     {
         &self.checked
     }
-
-    /// Gives the typed specification up; no memory is taken.
-    pub(crate) fn into_checked(self) -> Checked
-        ensures checked { result ≡ self }
-        ensures moded { IsModed self }
-    {
-        self.checked
-    }
 }

@@ -74,7 +74,14 @@ impl<T: Copy + Drop> Named<T> {
     pub fn find(&self, name: &Text) -> Option<T>
         ensures { result ≡ found self.now name.now }
     {
-        let at = self.names.find(name.as_str()).ok()?;
+        self.find_word(name.as_str())
+    }
+
+    /// The item of a name, which is not a text of its own.
+    pub fn find_word(&self, name: &str) -> Option<T>
+        ensures { result ≡ found self.now name.now }
+    {
+        let at = self.names.find(name).ok()?;
         self.items.get(at as usize).copied()
     }
 }

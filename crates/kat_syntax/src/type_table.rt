@@ -93,7 +93,7 @@ fn fields_of(
 
 /// The type that a written type is, in the declaration of this number: without values where it is
 /// none.
-fn named_type(declared: &DeclaredTypes, number: u32, name: &TypeName) -> Ty
+pub fn named_type(declared: &DeclaredTypes, number: u32, name: &TypeName) -> Ty
     ensures { (decls : List DeclForm) →
         IsHeads (type_heads decls) declared.now.named declared.now.numbers →
         result ≡ named_type decls number name.now }

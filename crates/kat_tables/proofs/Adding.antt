@@ -1,43 +1,55 @@
--- What is found when a name is added.
-use Rattle.std.proofs.Common.{◌≡◌, ℕ, Bool, true, false, if◌then◌else◌, List, [], ◌∷◌, ◌++◌, Option, None, Some, refl, subst}
-use Rattle.std.specs.Prelude.{is_some}
-use Rattle.std.specs.Option.{option_or}
+-- What is found when a name is added to the table.
+use Rattle.std.proofs.Common.{◌≡◌, Bool, true, false, cond, if◌then◌else◌, [], ◌∷◌, Option, Some, refl, sym, ap, ◌∙◌}
+use Rattle.std.specs.Borrow.{Bor}
 use Rattle.std.specs.Str.{bytes_eq}
 use Rattle.std.proofs.lemmas.Slice.Eq.{bytes_eq-Decides}
-use Rattle.kat_syntax.specs.NamedItems.{Item, found, added}
+use Rattle.indexmap.specs.IndexMap.{insert_entry}
+use Rattle.kat_syntax.specs.Tables.{Name}
+use Rattle.kat_tables.specs.Meanings.{Entries, found_in, IsPut}
 
--- one more name is found where no earlier one is the same
-found_push : {A : Type 0} (all : List (Item A)) (name : List ℕ) (item : A) (x : List ℕ) →
-    found (all ++ record { name = name; item = item } ∷ []) x
-    ≡ option_or (found all x) (if bytes_eq name x then Some item else None)
-found_push [] name item x = refl
-found_push (one ∷ more) name item x =
-    elim (bytes_eq one.name x) as
-    (λ b. (if b then Some one.item
-    else found (more ++ record { name = name; item = item } ∷ []) x)
-    ≡ option_or (if b then Some one.item else found more x)
-    (if bytes_eq name x then Some item else None))
-    [ true ↦ refl | false ↦ found_push more name item x ]
+-- the name that is there already is this one
+same_key : {V : Type 0} (b c : Bool) (v old rest : Option V) → c ≡ b →
+    cond b v rest ≡ cond c v (cond b old rest)
+same_key true true v old rest is = refl
+same_key true false v old rest is = absurd (cc)
+same_key false true v old rest is = absurd (cc)
+same_key false false v old rest is = refl
 
--- a name that is found already changes nothing
-again_from : {A : Type 0} (item : A) (f : Option A) (b : Bool) → (b ≡ true → is_some f ≡ true) →
-    f ≡ option_or f (if b then Some item else None)
-again_from item (Some v) b there = refl
-again_from item None false there = refl
-again_from item None true there = absurd (cc (there refl))
+-- another name
+other_key : {V : Type 0} (b c : Bool) (v old rest : Option V) → (b ≡ true → c ≡ true → ⊥) →
+    cond b old (cond c v rest) ≡ cond c v (cond b old rest)
+other_key true true v old rest apart = absurd (apart refl refl)
+other_key true false v old rest apart = refl
+other_key false c v old rest apart = refl
 
--- what is found, by whether the name is there already
-added_from : {A : Type 0} (all : List (Item A)) (name : List ℕ) (item : A) (x : List ℕ) (b : Bool) →
-    is_some (found all name) ≡ b →
-    found (if b then all else all ++ record { name = name; item = item } ∷ []) x
-    ≡ option_or (found all x) (if bytes_eq name x then Some item else None)
-added_from all name item x false is = found_push all name item x
-added_from all name item x true is =
-    again_from item (found all x) (bytes_eq name x)
-    (λ e. subst (λ y. is_some (found all y) ≡ true) ((bytes_eq-Decides name x).0 e) is)
+inserted_by : {V : Type 0} (e : Bor Name × V) (es more : Entries V) (k : Bor Name) (v : V)
+    (x : Name) (b : Bool) → bytes_eq k.now e.0.now ≡ b →
+    found_in more x ≡ cond (bytes_eq x k.now) (Some v) (found_in es x) →
+    found_in (if b then (e.0, v) ∷ es else e ∷ more) x
+    ≡ cond (bytes_eq x k.now) (Some v) (cond (bytes_eq x e.0.now) (Some e.1) (found_in es x))
+inserted_by e es more k v x true is rest =
+    same_key (bytes_eq x e.0.now) (bytes_eq x k.now) (Some v) (Some e.1) (found_in es x)
+    (ap (bytes_eq x) ((bytes_eq-Decides k.now e.0.now).0 is))
+inserted_by e es more k v x false is rest =
+    ap (cond (bytes_eq x e.0.now) (Some e.1)) rest
+    ∙ other_key (bytes_eq x e.0.now) (bytes_eq x k.now) (Some v) (Some e.1) (found_in es x)
+    (λ p q. let same = sym ((bytes_eq-Decides x k.now).0 q) ∙ (bytes_eq-Decides x e.0.now).0 p in
+    let both = (bytes_eq-Decides k.now e.0.now).1 same in
+    absurd (cc))
 
--- what is found when a name is added
-pub found_added : {A : Type 0} (all : List (Item A)) (name : List ℕ) (item : A) (x : List ℕ) →
-    found (added all name item) x
-    ≡ option_or (found all x) (if bytes_eq name x then Some item else None)
-found_added all name item x = added_from all name item x (is_some (found all name)) refl
+-- what is found behind an insertion
+pub inserted : {V : Type 0} (es : Entries V) (k : Bor Name) (v : V) (x : Name) →
+    found_in (insert_entry (λ (a b : Bor Name). bytes_eq a.now b.now) es k v) x
+    ≡ cond (bytes_eq x k.now) (Some v) (found_in es x)
+inserted [] k v x = refl
+inserted (e ∷ es) k v x =
+    inserted_by e es (insert_entry (λ (a b : Bor Name). bytes_eq a.now b.now) es k v) k v x
+    (bytes_eq k.now e.0.now) refl (inserted es k v x)
+
+-- an insertion lets the name be this
+pub put_once : {V : Type 0} (es now : Entries V) (k : Bor Name) (v : V) (name : Name) →
+    k.now ≡ name →
+    now ≡ insert_entry (λ (a b : Bor Name). bytes_eq a.now b.now) es k v → IsPut es name v now
+put_once es now k v name same inserts = λ x.
+    ap (λ n. found_in n x) inserts ∙ inserted es k v x
+    ∙ ap (λ n. cond (bytes_eq x n) (Some v) (found_in es x)) same

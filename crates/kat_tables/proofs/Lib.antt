@@ -3,6 +3,8 @@ pub mod DeclaredForms
 pub mod Declaring
 pub mod Lookups
 pub mod Noting
+pub mod Once
+pub mod Putting
 pub mod Ranges
 pub mod Reaches
 pub mod TypedForms

@@ -18,7 +18,7 @@ no_value : {A : Type 0} {v : A} → None ≡ Some v → ⊥
 no_value e = cc
 
 -- the place of a declared name
-abbrev place_of : Declared → Stand
+abbrev pub place_of : Declared → Stand
 place_of one = record { decl = one.decl; tree = one.tree }
 
 -- the place of the first of a name

@@ -1,22 +1,21 @@
--- The tables of all kinds with one more noted name.
+-- The table of all kinds with one more noted name.
 use Rattle.std.proofs.Common.{◌≡◌, Bool, true, false, if◌then◌else◌, List, [], ◌∷◌, ◌++◌, Option, None, Some, refl, sym, ap, ◌∙◌}
-use Rattle.std.specs.Prelude.{Result, Ok, Err}
+use Rattle.std.specs.Prelude.{Result, Ok, Err, option_and_then}
 use Rattle.std.specs.Result.{OnOk}
 use Rattle.std.specs.Option.{option_or}
 use Rattle.std.specs.Str.{bytes_eq}
+use Rattle.std.proofs.lemmas.Slice.Eq.{bytes_eq-Decides}
 use Rattle.kat_syntax.specs.Tables.{Name}
+use Rattle.kat_tables.specs.declared.seen.Stand.{Stand}
+use Rattle.kat_tables.specs.declared.kinds.Placed.{Placed}
+use Rattle.kat_tables.specs.declared.kinds.Firsts.{Firsts}
+use Rattle.kat_tables.specs.declared.kinds.Meaning.{Meaning}
 use Rattle.kat_tables.specs.declared.kinds.Kinds.{Kinds}
-use Rattle.kat_syntax.specs.NamedItems.{Item, found, added}
-use Rattle.kat_tables.specs.Meanings.{Noted, Wanted, first_with, place_in, member_in, ctor_in, register_in, region_in, predicate_in, function_in, lemma_in, block_in, Finds, IsKinds}
-use Rattle.kat_tables.proofs.Adding.{found_added}
-
--- a name more with its item, where there is one
-abbrev pub added_if : {A : Type 0} → Option A → List (Item A) → Name → List (Item A)
-added_if None all x = all
-added_if (Some item) all x = added all x item
+use Rattle.kat_tables.specs.Meanings.{Noted, Wanted, Getter, first_with, place_in, member_in, ctor_in, register_in, region_in, predicate_in, function_in, lemma_in, block_in, Finds, AreFirst, IsKinds}
+use Rattle.kat_tables.specs.Meanings.{found, found_in, firsts_of, firsts_both, joined, place_of, member_of, ctor_of, register_of, region_of, predicate_of, function_of, lemma_of, block_of}
 
 -- nothing after an answer changes nothing
-or_none : {A : Type 0} (first : Option A) → option_or first None ≡ first
+pub or_none : {A : Type 0} (first : Option A) → option_or first None ≡ first
 or_none None = refl
 or_none (Some item) = refl
 
@@ -27,7 +26,7 @@ or_or None second third = refl
 or_or (Some item) second third = refl
 
 -- one more noted name is looked at last
-first_push : {A : Type 0} (wanted : Wanted A) (all : List Noted) (one : Noted) (x : Name) →
+pub first_push : {A : Type 0} (wanted : Wanted A) (all : List Noted) (one : Noted) (x : Name) →
     first_with wanted (all ++ one ∷ []) x
     ≡ option_or (first_with wanted all x)
     (if bytes_eq one.name x then wanted one.stand one.meaning else None)
@@ -50,56 +49,97 @@ first_push wanted (first ∷ more) one x =
       | false ↦ first_push wanted more one x
     ]
 
--- no item where the name is this one, and none where it is not
-none_either_way : {A : Type 0} (first : Option A) (b : Bool) →
-    first ≡ option_or first (if b then None else None)
-none_either_way first true = sym (or_none first)
-none_either_way first false = sym (or_none first)
+-- what a noted name is
+abbrev pub placed : Noted → Placed
+placed one = record { at = one.stand; meaning = one.meaning }
 
--- what is found when there may be an item more
-found_added_if : {A : Type 0} (item : Option A) (all : List (Item A)) (name x : Name) →
-    found (added_if item all name) x
-    ≡ option_or (found all x) (if bytes_eq name x then item else None)
-found_added_if None all name x = none_either_way (found all x) (bytes_eq name x)
-found_added_if (Some item) all name x = found_added all name item x
+-- a getter that takes the first of two
+pub record TakesFirst (A : Type 0) (get : Getter A) (wanted : Wanted A) : Type 0 where
+  pub both : (first later : Firsts) →
+      get (firsts_both first later) ≡ option_or (get first) (get later)
+  pub one : (stand : Stand) (meaning : Meaning) →
+      get (firsts_of (record { at = stand; meaning = meaning })) ≡ wanted stand meaning
 
--- a table with one more noted name
-tells_push : {A : Type 0} (wanted : Wanted A) (all : List Noted) (one : Noted)
-    (named : List (Item A)) → Finds wanted all named →
-    Finds wanted (all ++ one ∷ []) (added_if (wanted one.stand one.meaning) named one.name)
-tells_push wanted all one named tells =
-    λ x. found_added_if (wanted one.stand one.meaning) named one.name x
+-- what is got of what a name is with what it is further on
+got_joined : {A : Type 0} (get : Getter A) (wanted : Wanted A) → TakesFirst A get wanted →
+    (first : Option Firsts) (stand : Stand) (meaning : Meaning) →
+    get (joined first (firsts_of (record { at = stand; meaning = meaning })))
+    ≡ option_or (option_and_then get first) (wanted stand meaning)
+got_joined get wanted takes None stand meaning = takes.one stand meaning
+got_joined get wanted takes (Some earlier) stand meaning =
+    takes.both earlier (firsts_of (record { at = stand; meaning = meaning }))
+    ∙ ap (option_or (get earlier)) (takes.one stand meaning)
+
+-- what is got of one name by whether it is the one that was added
+got_by : {A : Type 0} (get : Getter A) (wanted : Wanted A) → TakesFirst A get wanted →
+    (kinds : Kinds) (one : Noted) (x : Name) (b c : Bool) → b ≡ c → (b ≡ true → x ≡ one.name) →
+    option_and_then get (if b then
+    Some (joined (found kinds one.name) (firsts_of (placed one))) else found kinds x)
+    ≡ option_or (option_and_then get (found kinds x))
+    (if c then wanted one.stand one.meaning else None)
+got_by get wanted takes kinds one x true true e same =
+    got_joined get wanted takes (found kinds one.name) one.stand one.meaning
+    ∙ ap (λ y. option_or (option_and_then get (found kinds y)) (wanted one.stand one.meaning))
+    (sym (same refl))
+got_by get wanted takes kinds one x false false e same =
+    sym (or_none (option_and_then get (found kinds x)))
+got_by get wanted takes kinds one x true false e same = absurd (cc)
+got_by get wanted takes kinds one x false true e same = absurd (cc)
+
+turned : (b c : Bool) → (b ≡ true → c ≡ true) → (c ≡ true → b ≡ true) → b ≡ c
+turned true c there back = sym (there refl)
+turned false true there back = back refl
+turned false false there back = refl
+
+-- two names are the same both ways
+pub same_turned : (x y : Name) → bytes_eq x y ≡ bytes_eq y x
+same_turned x y = turned (bytes_eq x y) (bytes_eq y x)
+    (λ e. (bytes_eq-Decides y x).1 (sym ((bytes_eq-Decides x y).0 e)))
+    (λ e. (bytes_eq-Decides x y).1 (sym ((bytes_eq-Decides y x).0 e)))
+
+-- tables in which this noted name is one more
+abbrev pub IsWith : Kinds → Noted → Kinds → Type 0
+IsWith kinds one now = (x : Name) → found now x ≡ (if bytes_eq x one.name
+    then Some (joined (found kinds one.name) (firsts_of (placed one))) else found kinds x)
+
+-- tables with one more noted name
+tells_push : {A : Type 0} (get : Getter A) (wanted : Wanted A) → TakesFirst A get wanted →
+    (all : List Noted) (one : Noted) (kinds now : Kinds) → IsWith kinds one now →
+    Finds get wanted all kinds → Finds get wanted (all ++ one ∷ []) now
+tells_push get wanted takes all one kinds now finds tells =
+    λ x. ap (option_and_then get) (finds x)
+    ∙ got_by get wanted takes kinds one x (bytes_eq x one.name) (bytes_eq one.name x)
+    (same_turned x one.name) (bytes_eq-Decides x one.name).0
     ∙ ap (λ f. option_or f (if bytes_eq one.name x then wanted one.stand one.meaning else None))
     (tells x)
     ∙ sym (first_push wanted all one x)
 
--- the tables after a noted name
-abbrev pub kinds_with : Noted → Kinds → Kinds
-kinds_with one kinds = record {
-  names = added_if (place_in one.stand one.meaning) kinds.names one.name;
-  members = added_if (member_in one.stand one.meaning) kinds.members one.name;
-  ctors = added_if (ctor_in one.stand one.meaning) kinds.ctors one.name;
-  registers = added_if (register_in one.stand one.meaning) kinds.registers one.name;
-  regions = added_if (region_in one.stand one.meaning) kinds.regions one.name;
-  predicates = added_if (predicate_in one.stand one.meaning) kinds.predicates one.name;
-  functions = added_if (function_in one.stand one.meaning) kinds.functions one.name;
-  lemmas = added_if (lemma_in one.stand one.meaning) kinds.lemmas one.name;
-  blocks = added_if (block_in one.stand one.meaning) kinds.blocks one.name;
-}
-
 -- the tables of all kinds with one more noted name
-pub kinds_push : (all : List Noted) (one : Noted) (kinds : Kinds) → IsKinds all kinds →
-    IsKinds (all ++ one ∷ []) (kinds_with one kinds)
-kinds_push all one kinds is = record {
-  names = tells_push place_in all one kinds.names is.names;
-  members = tells_push member_in all one kinds.members is.members;
-  ctors = tells_push ctor_in all one kinds.ctors is.ctors;
-  registers = tells_push register_in all one kinds.registers is.registers;
-  regions = tells_push region_in all one kinds.regions is.regions;
-  predicates = tells_push predicate_in all one kinds.predicates is.predicates;
-  functions = tells_push function_in all one kinds.functions is.functions;
-  lemmas = tells_push lemma_in all one kinds.lemmas is.lemmas;
-  blocks = tells_push block_in all one kinds.blocks is.blocks;
+pub kinds_push : (all : List Noted) (one : Noted) (kinds now : Kinds) → IsWith kinds one now →
+    ((x : Name) → place_of now x ≡ first_with place_in (all ++ one ∷ []) x) →
+    ((x : Name) → found_in now.names.entries x ≡ None → found_in now.again.entries x ≡ None) →
+    (now.again.entries ≡ [] → AreFirst (all ++ one ∷ []) (all ++ one ∷ [])) →
+    IsKinds all kinds → IsKinds (all ++ one ∷ []) now
+kinds_push all one kinds now finds places among once is = record {
+  places = places;
+  members = tells_push member_of member_in
+      (record { both = λ f l. refl; one = λ s m. refl }) all one kinds now finds is.members;
+  ctors = tells_push ctor_of ctor_in
+      (record { both = λ f l. refl; one = λ s m. refl }) all one kinds now finds is.ctors;
+  registers = tells_push register_of register_in
+      (record { both = λ f l. refl; one = λ s m. refl }) all one kinds now finds is.registers;
+  regions = tells_push region_of region_in
+      (record { both = λ f l. refl; one = λ s m. refl }) all one kinds now finds is.regions;
+  predicates = tells_push predicate_of predicate_in
+      (record { both = λ f l. refl; one = λ s m. refl }) all one kinds now finds is.predicates;
+  functions = tells_push function_of function_in
+      (record { both = λ f l. refl; one = λ s m. refl }) all one kinds now finds is.functions;
+  lemmas = tells_push lemma_of lemma_in
+      (record { both = λ f l. refl; one = λ s m. refl }) all one kinds now finds is.lemmas;
+  blocks = tells_push block_of block_in
+      (record { both = λ f l. refl; one = λ s m. refl }) all one kinds now finds is.blocks;
+  among = among;
+  once = once;
 }
 
 -- what follows from what holds where there is a value
@@ -107,3 +147,9 @@ pub on_ok : {T E : Type 0} {P Q : Type 0} (result : Result T E) → OnOk result 
     OnOk result Q
 on_ok (Ok value) holds follows = follows holds
 on_ok (Err error) holds follows = holds
+
+-- what follows from two facts that hold where there is a value
+pub both_ok : {T E : Type 0} {P Q R : Type 0} (result : Result T E) → OnOk result P →
+    OnOk result Q → (P → Q → R) → OnOk result R
+both_ok (Ok value) one two follows = follows one two
+both_ok (Err error) one two follows = one

@@ -1,6 +1,9 @@
 -- What the tables keep of each declared name.
-use Rattle.std.specs.Prelude.{◌≡◌, ℕ, if◌then◌else◌, List, [], ◌∷◌, Option, None, Some}
-use Rattle.std.specs.Option.{option_or}
+use Rattle.std.specs.Prelude.{◌≡◌, ℕ, if◌then◌else◌, List, [], ◌∷◌, Option, None, Some, option_and_then}
+use Rattle.std.specs.List.{AllByRecursion}
+use Rattle.std.specs.Option.{option_map, option_or}
+use Rattle.std.specs.Borrow.{Bor}
+use Rattle.std.specs.Map.{lookup}
 use Rattle.std.specs.Str.{bytes_eq}
 use Rattle.kat_syntax.specs.Tables.{Name}
 use Rattle.kat_syntax.specs.Around.{CtorSeen, RegisterSeen}
@@ -10,7 +13,8 @@ use Rattle.kat_tables.specs.declared.seen.Stand.{Stand}
 use Rattle.kat_tables.specs.declared.kinds.Meaning.{Meaning}
 use Rattle.kat_tables.specs.declared.kinds.Meaning.TheVariants.{AType, AMember, ACtor, ARegister, ARegion, APredicate, AFunction, ALemma, ABlock}
 use Rattle.kat_tables.specs.declared.kinds.Kinds.{Kinds}
-use Rattle.kat_syntax.specs.NamedItems.{Item, found}
+use Rattle.kat_tables.specs.declared.kinds.Placed.{Placed}
+use Rattle.kat_tables.specs.declared.kinds.Firsts.{Firsts}
 
 -- a declared name: where it stands, and what the tables keep of its meaning
 pub record Noted : Type 0 where
@@ -94,18 +98,123 @@ abbrev pub block_in : Wanted ℕ
 block_in stand ABlock = Some stand.decl
 block_in stand _ = None
 
--- names with items that say of each name what is wanted of it
-abbrev pub Finds : {A : Type 0} → Wanted A → List Noted → List (Item A) → Type 0
-Finds wanted all named = (x : Name) → found named x ≡ first_with wanted all x
+-- what a name is that stands once
+abbrev pub firsts_of : Placed → Firsts
+firsts_of one = record {
+  member = member_in one.at one.meaning;
+  ctor = ctor_in one.at one.meaning;
+  register = register_in one.at one.meaning;
+  region = region_in one.at one.meaning;
+  predicate = predicate_in one.at one.meaning;
+  function = function_in one.at one.meaning;
+  lemma = lemma_in one.at one.meaning;
+  block = block_in one.at one.meaning;
+}
 
--- tables of all names, and of those of each kind
+-- a name that is one thing, and another further on
+abbrev pub firsts_both : Firsts → Firsts → Firsts
+firsts_both first later = record {
+  member = option_or first.member later.member;
+  ctor = option_or first.ctor later.ctor;
+  register = option_or first.register later.register;
+  region = option_or first.region later.region;
+  predicate = option_or first.predicate later.predicate;
+  function = option_or first.function later.function;
+  lemma = option_or first.lemma later.lemma;
+  block = option_or first.block later.block;
+}
+
+-- what a name is that may be there already, with what it is further on
+abbrev pub joined : Option Firsts → Firsts → Firsts
+joined None later = later
+joined (Some first) later = firsts_both first later
+
+-- the names in a table, with what each is
+abbrev pub Entries : Type 0 → Type 0
+Entries V = List (Bor Name × V)
+
+-- what a table says of a name
+abbrev pub found_in : {V : Type 0} → Entries V → Name → Option V
+found_in entries x = lookup (λ (key : Bor Name). bytes_eq x key.now) entries
+
+-- a table in which one name is this, whatever it was, and others are what they were
+abbrev pub IsPut : {V : Type 0} → Entries V → Name → V → Entries V → Type 0
+IsPut before name value now = (x : Name) →
+    found_in now x ≡ (if bytes_eq x name then Some value else found_in before x)
+
+-- what the table of first meanings says of a name
+abbrev pub once_in : Entries Placed → Name → Option Firsts
+once_in entries x = option_map firsts_of (found_in entries x)
+
+-- what two tables say of a name: that of names that stand twice, then that of first meanings
+abbrev pub found_by : Entries Placed → Entries Firsts → Name → Option Firsts
+found_by names again x = option_or (found_in again x) (once_in names x)
+
+-- the first place of a name
+abbrev pub place_of : Kinds → Name → Option Stand
+place_of kinds x = option_map (λ (one : Placed). one.at) (found_in kinds.names.entries x)
+
+-- what is noted of a name
+abbrev pub found : Kinds → Name → Option Firsts
+found kinds x = found_by kinds.names.entries kinds.again.entries x
+
+-- what is wanted of what a name is
+abbrev pub Getter : Type 0 → Type 0
+Getter A = Firsts → Option A
+
+-- its first meaning as a member
+abbrev pub member_of : Getter ℕ
+member_of firsts = firsts.member
+
+-- its first meaning as a constructor
+abbrev pub ctor_of : Getter CtorSeen
+ctor_of firsts = firsts.ctor
+
+-- its first meaning as a register
+abbrev pub register_of : Getter RegisterSeen
+register_of firsts = firsts.register
+
+-- its first meaning as a region
+abbrev pub region_of : Getter ℕ
+region_of firsts = firsts.region
+
+-- its first meaning as a predicate
+abbrev pub predicate_of : Getter ℕ
+predicate_of firsts = firsts.predicate
+
+-- its first meaning as a function
+abbrev pub function_of : Getter ℕ
+function_of firsts = firsts.function
+
+-- its first meaning as a lemma
+abbrev pub lemma_of : Getter ℕ
+lemma_of firsts = firsts.lemma
+
+-- its first meaning as a block
+abbrev pub block_of : Getter ℕ
+block_of firsts = firsts.block
+
+-- tables that say of each name what is wanted of it
+abbrev pub Finds : {A : Type 0} → Getter A → Wanted A → List Noted → Kinds → Type 0
+Finds get wanted all kinds =
+    (x : Name) → option_and_then get (found kinds x) ≡ first_with wanted all x
+
+-- each of some noted names stands first of its name among all
+abbrev pub AreFirst : List Noted → List Noted → Type 0
+AreFirst all some =
+    AllByRecursion (λ (one : Noted). first_with place_in all one.name ≡ Some one.stand) some
+
+-- tables of all these names, with the first place of each, and its first meaning of each kind
 pub record IsKinds (all : List Noted) (kinds : Kinds) : Type 0 where
-  pub names : Finds place_in all kinds.names
-  pub members : Finds member_in all kinds.members
-  pub ctors : Finds ctor_in all kinds.ctors
-  pub registers : Finds register_in all kinds.registers
-  pub regions : Finds region_in all kinds.regions
-  pub predicates : Finds predicate_in all kinds.predicates
-  pub functions : Finds function_in all kinds.functions
-  pub lemmas : Finds lemma_in all kinds.lemmas
-  pub blocks : Finds block_in all kinds.blocks
+  pub places : (x : Name) → place_of kinds x ≡ first_with place_in all x
+  pub members : Finds member_of member_in all kinds
+  pub ctors : Finds ctor_of ctor_in all kinds
+  pub registers : Finds register_of register_in all kinds
+  pub regions : Finds region_of region_in all kinds
+  pub predicates : Finds predicate_of predicate_in all kinds
+  pub functions : Finds function_of function_in all kinds
+  pub lemmas : Finds lemma_of lemma_in all kinds
+  pub blocks : Finds block_of block_in all kinds
+  pub among : (x : Name) → found_in kinds.names.entries x ≡ None →
+      found_in kinds.again.entries x ≡ None
+  pub once : kinds.again.entries ≡ [] → AreFirst all all

@@ -1,14 +1,15 @@
 //! What stands around a declaration, and what it may name.
 
-ghost use Rattle.std.specs.Prelude.{◌≡◌, ◌≤◌, [], length, map, take, slice_get, is_some, option_and_then};
+ghost use Rattle.std.specs.Prelude.{◌≡◌, ◌≤◌, [], true, Some, length, map, take, slice_get, is_some, option_and_then};
 ghost use Rattle.std.specs.Option.{option_copied};
 ghost use Rattle.kat_ast.specs.declared.type_name.Param.{Param};
+ghost use Rattle.kat_ast.specs.declared.decl.DeclForm.{DeclForm};
 ghost use Rattle.kat_syntax.specs.Declares.{declared_by, type_heads, typed_params};
 ghost use Rattle.kat_syntax.specs.Around.{a_member, a_ctor, a_register, a_region, a_predicate, a_function, a_lemma, a_block, meant, is_declared, is_before, first_named, type_called, enum_called, record_called, fields_at, names_that, is_member_of, is_ctor_of};
 ghost use Rattle.kat_syntax.specs.Memories.{memory_before, index_type, cell_type, kept_cell_type, is_protected_cell, is_taken};
 ghost use Rattle.kat_syntax.specs.TypesWritten.{type_here};
 ghost use Rattle.kat_syntax.specs.TypingExpressions.{type_of_register};
-ghost use Rattle.kat_syntax.specs.TypingDeclarations.{stands_at};
+ghost use Rattle.kat_syntax.specs.TypingDeclarations.{own_names, stands_at, taken_names};
 ghost use Rattle.kat_syntax.specs.DeclaredTypes.{head_numbers};
 
 use crate::forms::{
@@ -25,12 +26,12 @@ use std::marker::Model;
 
 /// All declarations, with their tables, and the number of the one that is looked at.
 #[derive(Drop)]
-pub struct Around<'a> {
-    tables: &'a Tables<'a>,
+pub struct Around<'t, 'd> {
+    tables: &'t Tables<'d>,
     number: u32,
 }
 
-impl<'a> Model for Around<'a> {
+impl<'t, 'd> Model for Around<'t, 'd> {
     ghost use Rattle.std.specs.Prelude.{◌≤◌, length};
     ghost use Rattle.std.specs.Coded.{codes};
     ghost use Rattle.kat_ast.specs.contracts.expr.Expr.{the_row as expr};
@@ -47,9 +48,9 @@ impl<'a> Model for Around<'a> {
     ghost invariant = { λ a. a.number ≤ length a.tables.now };
 }
 
-impl<'a> Around<'a> {
+impl<'t, 'd> Around<'t, 'd> {
     /// What stands around the declaration of this number.
-    pub fn new(tables: &'a Tables<'a>, number: u32) -> Around<'a>
+    pub fn new(tables: &'t Tables<'d>, number: u32) -> Around<'t, 'd>
         requires { number ≤ length tables.now }
         ensures { result ≡ record { decls = tables.now; number = number } }
     {
@@ -64,7 +65,7 @@ impl<'a> Around<'a> {
     }
 
     /// The declarations before it.
-    pub fn before(&self) -> &'a [Decl]
+    pub fn before(&self) -> &'d [Decl]
         ensures { result.now ≡ take self.now.number self.now.decls }
     {
         let tables = self.tables;
@@ -72,14 +73,14 @@ impl<'a> Around<'a> {
     }
 
     /// Names with their types, as they are written in this declaration.
-    pub fn params(&self, params: &'a [Param]) -> Params<'a>
+    pub fn params(&self, params: &'d [Param]) -> Params<'t, 'd>
         ensures { result ≡ typed_params self.now.decls self.now.number params.now }
     {
         Params::one(self.tables, self.number, params)
     }
 
     /// No types.
-    pub fn no_types(&self) -> &'a Types
+    pub fn no_types(&self) -> &'t Types
         ensures { result.now ≡ [] }
     {
         let tables = self.tables;
@@ -91,7 +92,7 @@ impl<'a> Around<'a> {
         ensures { result ≡ is_declared self.now name.now }
     {
         let tables = self.tables;
-        tables.kinds.names.find(name).is_some()
+        tables.kinds.place(name).is_some()
     }
 
     /// Whether the first declared of this name stands in this declaration, at this tree.
@@ -100,10 +101,20 @@ impl<'a> Around<'a> {
             result ≡ stands_at self.now.number tree first }
     {
         let tables = self.tables;
-        match tables.kinds.names.find(name) {
+        match tables.kinds.place(name) {
             Some(stand) => stand.decl == self.number && stand.tree == tree,
             None => false,
         }
+    }
+
+    /// Whether no name is declared twice. Then no name of the declaration is taken.
+    pub fn names_differ(&self) -> bool
+        ensures { result ≡ true → (form : DeclForm) →
+            slice_get self.now.decls self.now.number ≡ Some form →
+            taken_names self.now (own_names self.now form) ≡ [] }
+    {
+        let tables = self.tables;
+        tables.kinds.are_once()
     }
 
     /// Whether a declaration stands before this one.
@@ -140,7 +151,7 @@ impl<'a> Around<'a> {
     }
 
     /// The record type of this name that is declared earlier.
-    pub fn record_called(&self, name: &Text) -> Option<RecordSeen<'a>>
+    pub fn record_called(&self, name: &Text) -> Option<RecordSeen<'t, 'd>>
         ensures { result ≡ record_called self.now name.now }
     {
         match self.type_called(name) {
@@ -154,7 +165,7 @@ impl<'a> Around<'a> {
         ensures { result ≡ meant a_member self.now name.now }
     {
         let tables = self.tables;
-        tables.kinds.members.find(name)
+        tables.kinds.member(name)
     }
 
     /// A constructor of a union.
@@ -162,7 +173,7 @@ impl<'a> Around<'a> {
         ensures { result ≡ meant a_ctor self.now name.now }
     {
         let tables = self.tables;
-        tables.kinds.ctors.find(name)
+        tables.kinds.ctor(name)
     }
 
     /// A register.
@@ -170,7 +181,7 @@ impl<'a> Around<'a> {
         ensures { result ≡ meant a_register self.now name.now }
     {
         let tables = self.tables;
-        tables.kinds.registers.find(name)
+        tables.kinds.register(name)
     }
 
     /// The type of a register, where it is known.
@@ -181,42 +192,42 @@ impl<'a> Around<'a> {
     }
 
     /// The parameters of a region.
-    pub fn region(&self, name: &Text) -> Option<Params<'a>>
+    pub fn region(&self, name: &Text) -> Option<Params<'t, 'd>>
         ensures { result ≡ meant a_region self.now name.now }
     {
         let tables = self.tables;
-        let decl = tables.kinds.regions.find(name)?;
+        let decl = tables.kinds.region(name)?;
         let params = region_params(tables.form(decl)?)?;
         Some(Params::one(tables, decl, params))
     }
 
     /// A predicate.
-    pub fn predicate(&self, name: &Text) -> Option<ProofSeen<'a>>
+    pub fn predicate(&self, name: &Text) -> Option<ProofSeen<'t, 'd>>
         ensures { result ≡ meant a_predicate self.now name.now }
     {
         let tables = self.tables;
-        let decl = tables.kinds.predicates.find(name)?;
+        let decl = tables.kinds.predicate(name)?;
         let (inputs, outputs) = predicate_params(tables.form(decl)?)?;
         Some(ProofSeen::new(tables, decl, inputs, outputs))
     }
 
     /// A function.
-    pub fn function(&self, name: &Text) -> Option<FunctionSeen<'a>>
+    pub fn function(&self, name: &Text) -> Option<FunctionSeen<'t, 'd>>
         ensures { result ≡ meant a_function self.now name.now }
     {
         let tables = self.tables;
-        let decl = tables.kinds.functions.find(name)?;
+        let decl = tables.kinds.function(name)?;
         let (params, written) = function_types(tables.form(decl)?)?;
         let ty = tables.heads.type_of_name(decl, written);
         Some(FunctionSeen::new(Params::one(tables, decl, params), ty))
     }
 
     /// A lemma.
-    pub fn lemma(&self, name: &Text) -> Option<ProofSeen<'a>>
+    pub fn lemma(&self, name: &Text) -> Option<ProofSeen<'t, 'd>>
         ensures { result ≡ meant a_lemma self.now name.now }
     {
         let tables = self.tables;
-        let decl = tables.kinds.lemmas.find(name)?;
+        let decl = tables.kinds.lemma(name)?;
         let params = lemma_params(tables.form(decl)?)?;
         Some(ProofSeen::new(tables, decl, params, &[]))
     }
@@ -226,11 +237,11 @@ impl<'a> Around<'a> {
         ensures { result ≡ is_some (meant a_block self.now name.now) }
     {
         let tables = self.tables;
-        tables.kinds.blocks.find(name).is_some()
+        tables.kinds.block(name).is_some()
     }
 
     /// The members of the enum at this position among the types.
-    pub fn members_at(&self, of: u32) -> &'a [Text]
+    pub fn members_at(&self, of: u32) -> &'d [Text]
         ensures { result.now ≡ names_that (is_member_of of) self.now }
     {
         match self.type_form(of) {
@@ -240,7 +251,7 @@ impl<'a> Around<'a> {
     }
 
     /// The constructors of the union at this position.
-    pub fn ctors_at(&self, of: u32) -> &'a [Param]
+    pub fn ctors_at(&self, of: u32) -> &'d [Param]
         ensures { map (λ (ctor : Param). ctor.name) result.now
             ≡ names_that (is_ctor_of of) self.now }
     {
@@ -251,7 +262,7 @@ impl<'a> Around<'a> {
     }
 
     /// The fields of the record type at this position.
-    fn fields_at(&self, of: u32) -> Params<'a>
+    fn fields_at(&self, of: u32) -> Params<'t, 'd>
         ensures { result ≡ fields_at self.now of }
     {
         let tables = self.tables;
@@ -263,7 +274,7 @@ impl<'a> Around<'a> {
     }
 
     /// The declaration of the type at this position.
-    fn type_form(&self, of: u32) -> Option<&'a DeclForm>
+    fn type_form(&self, of: u32) -> Option<&'d DeclForm>
         ensures { option_copied result ≡ option_and_then (slice_get self.now.decls)
             (slice_get (head_numbers (type_heads self.now.decls)) of) }
     {

@@ -17,13 +17,17 @@ use sqlite_items::Items;
 use std::alloc::{AllocError, Global};
 
 /// All that is declared.
-pub fn kinds_of(alloc: Global, heads: &DeclaredTypes, decls: &[Decl]) -> Result<Kinds, AllocError>
+pub fn kinds_of<'a>(
+    alloc: Global,
+    heads: &DeclaredTypes,
+    decls: &'a [Decl],
+) -> Result<Kinds<'a>, AllocError>
     requires few { length decls.now < 2 ^ 32 }
     requires heads { IsHeads (type_heads decls.now) heads.now.named heads.now.numbers }
     ensures { IfOk result (λ kinds. IsKinds (map noted (declared_by decls.now)) kinds) }
 {
     places_are_of_the_tree();
-    let mut kinds = Kinds::new(alloc)?;
+    let mut kinds = Kinds::new(alloc);
     let mut position: u32 = 0;
     for (decl, form) in decls.iter().enumerate() {
         let form = form.form();
@@ -36,12 +40,12 @@ pub fn kinds_of(alloc: Global, heads: &DeclaredTypes, decls: &[Decl]) -> Result<
 }
 
 /// Notes what a declaration of this number declares, the next type having this position.
-fn declare(
-    kinds: &mut Kinds,
+fn declare<'a>(
+    kinds: &mut Kinds<'a>,
     heads: &DeclaredTypes,
     decl: u32,
     position: u32,
-    form: &DeclForm,
+    form: &'a DeclForm,
 ) -> Result<(), AllocError>
     requires { trees_of_decl form.now < 2 ^ 32 }
     ensures { (all : List Noted) (decls : List DeclForm) → IsKinds all kinds.old →
@@ -78,17 +82,18 @@ fn declare(
 }
 
 /// Notes the members of the enum at this position.
-fn declare_members(
-    kinds: &mut Kinds,
+fn declare_members<'a>(
+    kinds: &mut Kinds<'a>,
     decl: u32,
     position: u32,
-    members: &Items<Text>,
+    members: &'a Items<Text>,
 ) -> Result<(), AllocError>
     requires { 4 + length members.now < 2 ^ 32 }
     ensures { (all : List Noted) → IsKinds all kinds.old →
         OnOk result (IsKinds
         (all ++ map noted (members_from decl position 4 members.now)) kinds.new) }
 {
+    kinds.reserve(members.len())?;
     let mut tree: u32 = 4;
     for member in members.as_slice() {
         kinds.add(Stand { decl, tree }, member, Meaning::AMember(position))?;
@@ -98,12 +103,12 @@ fn declare_members(
 }
 
 /// Notes the constructors of the union at this position.
-fn declare_ctors(
-    kinds: &mut Kinds,
+fn declare_ctors<'a>(
+    kinds: &mut Kinds<'a>,
     heads: &DeclaredTypes,
     decl: u32,
     of: u32,
-    ctors: &Items<Param>,
+    ctors: &'a Items<Param>,
 ) -> Result<(), AllocError>
     requires { 3 + trees_of_params ctors.now < 2 ^ 32 }
     ensures { (all : List Noted) (decls : List DeclForm) → IsKinds all kinds.old →

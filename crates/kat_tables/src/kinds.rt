@@ -1,25 +1,41 @@
-//! All declared names, by kind.
+//! All declared names, with what each is.
 
-ghost use Rattle.std.specs.Prelude.{[], ◌∷◌, ◌++◌, List, IfOk, OnOk};
-ghost use Rattle.kat_tables.specs.Meanings.{Noted, IsKinds};
+ghost use Rattle.std.specs.Prelude.{◌≡◌, [], ◌∷◌, ◌++◌, true, List, OnOk, unwrap_or, option_and_then};
+ghost use Rattle.std.specs.Option.{option_copied};
+ghost use Rattle.kat_tables.specs.Meanings.{Noted, IsKinds, IsPut, firsts_of, firsts_both, found, found_in, once_in};
+ghost use Rattle.kat_tables.specs.Meanings.{place_of, member_of, ctor_of, register_of, region_of, predicate_of, function_of, lemma_of, block_of};
 
 use crate::seen::{CtorSeen, RegisterSeen, Stand};
-use kat_syntax::Named;
+use indexmap::IndexMap;
 use kat_text::Text;
 use std::alloc::{AllocError, Global};
 
-/// All declared names with their first places, and the names of each kind.
+/// All declared names, in one table, each with its first place and its meaning there; and what
+/// those that stand twice are, in a table of their own, which a typed specification leaves empty.
 #[derive(Drop)]
-pub struct Kinds {
-    pub names: Named<Stand>,
-    pub members: Named<u32>,
-    pub ctors: Named<CtorSeen>,
-    pub registers: Named<RegisterSeen>,
-    pub regions: Named<u32>,
-    pub predicates: Named<u32>,
-    pub functions: Named<u32>,
-    pub lemmas: Named<u32>,
-    pub blocks: Named<u32>,
+pub struct Kinds<'a> {
+    names: IndexMap<&'a str, Placed>,
+    again: IndexMap<&'a str, Firsts>,
+}
+
+/// What a declared name is, and where it stands.
+#[derive(Clone, Copy, Drop)]
+pub struct Placed {
+    pub at: Stand,
+    pub meaning: Meaning,
+}
+
+/// The first meaning of a name of each kind.
+#[derive(Clone, Copy, Drop)]
+pub struct Firsts {
+    pub member: Option<u32>,
+    pub ctor: Option<CtorSeen>,
+    pub register: Option<RegisterSeen>,
+    pub region: Option<u32>,
+    pub predicate: Option<u32>,
+    pub function: Option<u32>,
+    pub lemma: Option<u32>,
+    pub block: Option<u32>,
 }
 
 /// What a declared name is, as far as the tables keep it.
@@ -36,41 +52,276 @@ pub enum Meaning {
     ABlock,
 }
 
-impl Kinds {
+impl<'a> Kinds<'a> {
     /// No names.
-    pub fn new(alloc: Global) -> Result<Kinds, AllocError>
-        ensures { IfOk result (λ kinds. IsKinds [] kinds) }
+    pub fn new(alloc: Global) -> Kinds<'a>
+        ensures { IsKinds [] result }
     {
-        Ok(Kinds {
-            names: Named::empty(alloc),
-            members: Named::empty(alloc),
-            ctors: Named::empty(alloc),
-            registers: Named::empty(alloc),
-            regions: Named::empty(alloc),
-            predicates: Named::empty(alloc),
-            functions: Named::empty(alloc),
-            lemmas: Named::empty(alloc),
-            blocks: Named::empty(alloc),
-        })
+        Kinds {
+            names: IndexMap::new(alloc),
+            again: IndexMap::new(alloc),
+        }
+    }
+
+    /// Makes room for so many more names.
+    pub fn reserve(&mut self, more: usize) -> Result<(), AllocError>
+        ensures { (all : List Noted) → IsKinds all self.old →
+            OnOk result (IsKinds all self.new) }
+    {
+        self.names.reserve(more)
     }
 
     /// Adds a name with its place and its meaning.
-    pub fn add(&mut self, at: Stand, name: &Text, meaning: Meaning) -> Result<(), AllocError>
+    pub fn add(&mut self, at: Stand, name: &'a Text, meaning: Meaning) -> Result<(), AllocError>
         ensures { (all : List Noted) → IsKinds all self.old →
             OnOk result (IsKinds
             (all ++ record { stand = at; name = name.now; meaning = meaning } ∷ []) self.new) }
     {
-        self.names.add(name, at)?;
-        match meaning {
-            Meaning::AType => Ok(()),
-            Meaning::AMember(of) => self.members.add(name, of),
-            Meaning::ACtor(seen) => self.ctors.add(name, seen),
-            Meaning::ARegister(seen) => self.registers.add(name, seen),
-            Meaning::ARegion => self.regions.add(name, at.decl),
-            Meaning::APredicate => self.predicates.add(name, at.decl),
-            Meaning::AFunction => self.functions.add(name, at.decl),
-            Meaning::ALemma => self.lemmas.add(name, at.decl),
-            Meaning::ABlock => self.blocks.add(name, at.decl),
+        self.put(name.as_str(), &Placed { at, meaning })
+    }
+
+    /// Adds a name with what it is.
+    fn put(&mut self, name: &'a str, one: &Placed) -> Result<(), AllocError>
+        ensures { (all : List Noted) → IsKinds all self.old →
+            OnOk result (IsKinds (all ++ record {
+              stand = one.now.at;
+              name = name.now;
+              meaning = one.now.meaning;
+            } ∷ []) self.new) }
+    {
+        match self.names.insert(name, *one) {
+            Ok(None) => Ok(()),
+            Ok(Some(first)) => self.put_back(name, &first, one),
+            Err(_) => Err(AllocError),
+        }
+    }
+
+    /// Lets a name be what it was first, and notes what it is further on.
+    fn put_back(&mut self, name: &'a str, first: &Placed, later: &Placed) -> Result<(), AllocError>
+        ensures names { OnOk result (IsPut self.old.names.entries name.now first.now
+            self.new.names.entries) }
+        ensures again { OnOk result (IsPut self.old.again.entries name.now (firsts_both
+            (unwrap_or (found_in self.old.again.entries name.now) (firsts_of first.now))
+            (firsts_of later.now)) self.new.again.entries) }
+    {
+        match self.names.insert(name, *first) {
+            Ok(_) => put_again(&mut self.again, name, first, later),
+            Err(_) => Err(AllocError),
+        }
+    }
+
+    /// Whether each name stands once.
+    pub fn are_once(&self) -> bool
+        ensures { result ≡ true → self.now.again.entries ≡ [] }
+    {
+        self.again.is_empty()
+    }
+
+    /// The first place of a name.
+    pub fn place(&self, name: &Text) -> Option<Stand>
+        ensures { result ≡ place_of self.now name.now }
+    {
+        match self.names.get(name.as_str()) {
+            Some(one) => Some(one.at),
+            None => None,
+        }
+    }
+
+    /// The enum of a member.
+    pub fn member(&self, name: &Text) -> Option<u32>
+        ensures { result ≡ option_and_then member_of (found self.now name.now) }
+    {
+        match self.find(name) {
+            Some(firsts) => firsts.member,
+            None => None,
+        }
+    }
+
+    /// A constructor.
+    pub fn ctor(&self, name: &Text) -> Option<CtorSeen>
+        ensures { result ≡ option_and_then ctor_of (found self.now name.now) }
+    {
+        match self.find(name) {
+            Some(firsts) => firsts.ctor,
+            None => None,
+        }
+    }
+
+    /// A register.
+    pub fn register(&self, name: &Text) -> Option<RegisterSeen>
+        ensures { result ≡ option_and_then register_of (found self.now name.now) }
+    {
+        match self.find(name) {
+            Some(firsts) => firsts.register,
+            None => None,
+        }
+    }
+
+    /// The declaration of a region.
+    pub fn region(&self, name: &Text) -> Option<u32>
+        ensures { result ≡ option_and_then region_of (found self.now name.now) }
+    {
+        match self.find(name) {
+            Some(firsts) => firsts.region,
+            None => None,
+        }
+    }
+
+    /// The declaration of a predicate.
+    pub fn predicate(&self, name: &Text) -> Option<u32>
+        ensures { result ≡ option_and_then predicate_of (found self.now name.now) }
+    {
+        match self.find(name) {
+            Some(firsts) => firsts.predicate,
+            None => None,
+        }
+    }
+
+    /// The declaration of a function.
+    pub fn function(&self, name: &Text) -> Option<u32>
+        ensures { result ≡ option_and_then function_of (found self.now name.now) }
+    {
+        match self.find(name) {
+            Some(firsts) => firsts.function,
+            None => None,
+        }
+    }
+
+    /// The declaration of a lemma.
+    pub fn lemma(&self, name: &Text) -> Option<u32>
+        ensures { result ≡ option_and_then lemma_of (found self.now name.now) }
+    {
+        match self.find(name) {
+            Some(firsts) => firsts.lemma,
+            None => None,
+        }
+    }
+
+    /// The declaration of a block.
+    pub fn block(&self, name: &Text) -> Option<u32>
+        ensures { result ≡ option_and_then block_of (found self.now name.now) }
+    {
+        match self.find(name) {
+            Some(firsts) => firsts.block,
+            None => None,
+        }
+    }
+
+    /// What a name is.
+    fn find(&self, name: &Text) -> Option<Firsts>
+        ensures { result ≡ found self.now name.now }
+    {
+        match self.again.get(name.as_str()) {
+            Some(firsts) => Some(*firsts),
+            None => self.find_once(name.as_str()),
+        }
+    }
+
+    /// What a name is that stands once.
+    fn find_once(&self, name: &str) -> Option<Firsts>
+        ensures { result ≡ once_in self.now.names.entries name.now }
+    {
+        match self.names.get(name) {
+            Some(one) => Some(Firsts::of(one)),
+            None => None,
+        }
+    }
+}
+
+/// Notes what a name, which was this first, is further on.
+fn put_again<'a>(
+    again: &mut IndexMap<&'a str, Firsts>,
+    name: &'a str,
+    first: &Placed,
+    later: &Placed,
+) -> Result<(), AllocError>
+    ensures { OnOk result (IsPut again.old.entries name.now (firsts_both
+        (unwrap_or (found_in again.old.entries name.now) (firsts_of first.now))
+        (firsts_of later.now)) again.new.entries) }
+{
+    let before = known_or(again.get(name), first);
+    match again.insert(name, before.or(Firsts::of(later))) {
+        Ok(_) => Ok(()),
+        Err(_) => Err(AllocError),
+    }
+}
+
+/// What a name is known to be, or what it was first.
+fn known_or(known: Option<&Firsts>, first: &Placed) -> Firsts
+    ensures { result ≡ unwrap_or (option_copied known.entry) (firsts_of first.now) }
+{
+    match known {
+        Some(firsts) => *firsts,
+        None => Firsts::of(first),
+    }
+}
+
+impl Firsts {
+    /// A name that stands once.
+    fn of(one: &Placed) -> Firsts
+        ensures { result ≡ firsts_of one.now }
+    {
+        let decl = one.at.decl;
+        let none = Firsts {
+            member: None,
+            ctor: None,
+            register: None,
+            region: None,
+            predicate: None,
+            function: None,
+            lemma: None,
+            block: None,
+        };
+        match one.meaning {
+            Meaning::AType => none,
+            Meaning::AMember(of) => Firsts {
+                member: Some(of),
+                ..none
+            },
+            Meaning::ACtor(seen) => Firsts {
+                ctor: Some(seen),
+                ..none
+            },
+            Meaning::ARegister(seen) => Firsts {
+                register: Some(seen),
+                ..none
+            },
+            Meaning::ARegion => Firsts {
+                region: Some(decl),
+                ..none
+            },
+            Meaning::APredicate => Firsts {
+                predicate: Some(decl),
+                ..none
+            },
+            Meaning::AFunction => Firsts {
+                function: Some(decl),
+                ..none
+            },
+            Meaning::ALemma => Firsts {
+                lemma: Some(decl),
+                ..none
+            },
+            Meaning::ABlock => Firsts {
+                block: Some(decl),
+                ..none
+            },
+        }
+    }
+
+    /// A name that is this, and is something else further on.
+    fn or(&self, later: Firsts) -> Firsts
+        ensures { result ≡ firsts_both self.now later }
+    {
+        Firsts {
+            member: self.member.or(later.member),
+            ctor: self.ctor.or(later.ctor),
+            register: self.register.or(later.register),
+            region: self.region.or(later.region),
+            predicate: self.predicate.or(later.predicate),
+            function: self.function.or(later.function),
+            lemma: self.lemma.or(later.lemma),
+            block: self.block.or(later.block),
         }
     }
 }

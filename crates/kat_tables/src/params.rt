@@ -14,14 +14,14 @@ use std::marker::Model;
 
 /// Names with their types, of one list behind another, as the declaration of a number writes them.
 #[derive(Drop)]
-pub struct Params<'a> {
-    tables: &'a Tables<'a>,
+pub struct Params<'t, 'd> {
+    tables: &'t Tables<'d>,
     decl: u32,
-    first: &'a [Param],
-    second: &'a [Param],
+    first: &'d [Param],
+    second: &'d [Param],
 }
 
-impl<'a> Model for Params<'a> {
+impl<'t, 'd> Model for Params<'t, 'd> {
     ghost use Rattle.std.specs.Prelude.{◌++◌, List};
     ghost use Rattle.kat_syntax.specs.Declares.{TypedName, typed_params};
 
@@ -30,9 +30,9 @@ impl<'a> Model for Params<'a> {
     ghost view = { λ p. typed_params p.tables.now p.decl (p.first.now ++ p.second.now) };
 }
 
-impl<'a> Params<'a> {
+impl<'t, 'd> Params<'t, 'd> {
     /// One list of names.
-    pub(crate) fn one(tables: &'a Tables<'a>, decl: u32, params: &'a [Param]) -> Params<'a>
+    pub(crate) fn one(tables: &'t Tables<'d>, decl: u32, params: &'d [Param]) -> Params<'t, 'd>
         ensures { result ≡ typed_params tables.now decl params.now }
     {
         Params {
@@ -51,7 +51,7 @@ impl<'a> Params<'a> {
     }
 
     /// The name at this position.
-    pub fn name_at(&self, at: usize) -> Option<&'a Text>
+    pub fn name_at(&self, at: usize) -> Option<&'d Text>
         ensures { option_map (λ name. name.now) result
             ≡ option_map (λ (one : TypedName). one.name) (slice_get self.now at) }
     {
@@ -78,7 +78,7 @@ impl<'a> Params<'a> {
     }
 
     /// The same names once more.
-    pub fn copy(&self) -> Params<'a>
+    pub fn copy(&self) -> Params<'t, 'd>
         ensures { result ≡ self.now }
     {
         Params {
@@ -115,14 +115,14 @@ fn type_in(tables: &Tables<'_>, decl: u32, params: &[Param], name: &Text) -> Opt
 
 /// A predicate or a lemma: the number of its declaration, and what it takes.
 #[derive(Drop)]
-pub struct ProofSeen<'a> {
-    tables: &'a Tables<'a>,
+pub struct ProofSeen<'t, 'd> {
+    tables: &'t Tables<'d>,
     decl: u32,
-    inputs: &'a [Param],
-    outputs: &'a [Param],
+    inputs: &'d [Param],
+    outputs: &'d [Param],
 }
 
-impl<'a> Model for ProofSeen<'a> {
+impl<'t, 'd> Model for ProofSeen<'t, 'd> {
     ghost use Rattle.kat_syntax.specs.Declares.{typed_params};
     ghost use Rattle.kat_syntax.specs.Around.{ProofSeen as ProofMeant};
 
@@ -135,14 +135,14 @@ impl<'a> Model for ProofSeen<'a> {
     } };
 }
 
-impl<'a> ProofSeen<'a> {
+impl<'t, 'd> ProofSeen<'t, 'd> {
     /// A predicate or a lemma that is declared at this number and takes these.
     pub(crate) fn new(
-        tables: &'a Tables<'a>,
+        tables: &'t Tables<'d>,
         decl: u32,
-        inputs: &'a [Param],
-        outputs: &'a [Param],
-    ) -> ProofSeen<'a>
+        inputs: &'d [Param],
+        outputs: &'d [Param],
+    ) -> ProofSeen<'t, 'd>
         ensures { result ≡ record {
           decl = decl;
           inputs = typed_params tables.now decl inputs.now;
@@ -165,14 +165,14 @@ impl<'a> ProofSeen<'a> {
     }
 
     /// Its inputs.
-    pub fn inputs(&self) -> Params<'a>
+    pub fn inputs(&self) -> Params<'t, 'd>
         ensures { result ≡ self.now.inputs }
     {
         Params::one(self.tables, self.decl, self.inputs)
     }
 
     /// Its inputs, and its outputs behind them.
-    pub fn inputs_and_outputs(&self) -> Params<'a>
+    pub fn inputs_and_outputs(&self) -> Params<'t, 'd>
         ensures { result ≡ inputs_and_outputs self.now }
     {
         Params {
@@ -186,12 +186,12 @@ impl<'a> ProofSeen<'a> {
 
 /// A function, with its parameters and the type of its result.
 #[derive(Drop)]
-pub struct FunctionSeen<'a> {
-    params: Params<'a>,
+pub struct FunctionSeen<'t, 'd> {
+    params: Params<'t, 'd>,
     ty: Option<Ty>,
 }
 
-impl<'a> Model for FunctionSeen<'a> {
+impl<'t, 'd> Model for FunctionSeen<'t, 'd> {
     ghost use Rattle.kat_syntax.specs.Around.{FunctionSeen as FunctionMeant};
 
     ghost Value = { FunctionMeant };
@@ -199,16 +199,16 @@ impl<'a> Model for FunctionSeen<'a> {
     ghost view = { λ f. record { params = f.params; result = f.ty } };
 }
 
-impl<'a> FunctionSeen<'a> {
+impl<'t, 'd> FunctionSeen<'t, 'd> {
     /// A function with these parameters, whose result is of this type.
-    pub(crate) fn new(params: Params<'a>, ty: Option<Ty>) -> FunctionSeen<'a>
+    pub(crate) fn new(params: Params<'t, 'd>, ty: Option<Ty>) -> FunctionSeen<'t, 'd>
         ensures { result ≡ record { params = params.entry; result = ty } }
     {
         FunctionSeen { params, ty }
     }
 
     /// Its parameters.
-    pub fn params(&self) -> &Params<'a>
+    pub fn params(&self) -> &Params<'t, 'd>
         ensures { result.now ≡ self.now.params }
     {
         &self.params
@@ -224,12 +224,12 @@ impl<'a> FunctionSeen<'a> {
 
 /// A record type: its position among the types, and its fields.
 #[derive(Drop)]
-pub struct RecordSeen<'a> {
+pub struct RecordSeen<'t, 'd> {
     of: u32,
-    fields: Params<'a>,
+    fields: Params<'t, 'd>,
 }
 
-impl<'a> Model for RecordSeen<'a> {
+impl<'t, 'd> Model for RecordSeen<'t, 'd> {
     ghost use Rattle.kat_syntax.specs.Around.{RecordSeen as RecordMeant};
 
     ghost Value = { RecordMeant };
@@ -237,9 +237,9 @@ impl<'a> Model for RecordSeen<'a> {
     ghost view = { λ r. record { of = r.of; fields = r.fields } };
 }
 
-impl<'a> RecordSeen<'a> {
+impl<'t, 'd> RecordSeen<'t, 'd> {
     /// The record type at this position, with these fields.
-    pub(crate) fn new(of: u32, fields: Params<'a>) -> RecordSeen<'a>
+    pub(crate) fn new(of: u32, fields: Params<'t, 'd>) -> RecordSeen<'t, 'd>
         ensures { result ≡ record { of = of; fields = fields.entry } }
     {
         RecordSeen { of, fields }
@@ -253,7 +253,7 @@ impl<'a> RecordSeen<'a> {
     }
 
     /// Its fields.
-    pub fn fields(&self) -> &Params<'a>
+    pub fn fields(&self) -> &Params<'t, 'd>
         ensures { result.now ≡ self.now.fields }
     {
         &self.fields

@@ -14,13 +14,13 @@ use sqlite_items::Items;
 use std::alloc::{AllocError, Global};
 use std::marker::Model;
 
-/// Declarations, with tables of what they declare: the types, all names with their first places,
-/// the names of each kind, the memory and the protected ranges.
+/// Declarations, with tables of what they declare: the types, all names, the memory and the
+/// protected ranges.
 #[derive(Drop)]
 pub struct Tables<'a> {
     pub decls: &'a [Decl],
     pub heads: DeclaredTypes,
-    pub kinds: Kinds,
+    pub kinds: Kinds<'a>,
     pub memory: Option<Memory>,
     pub protected: Protected,
     /// No types: no operation that is written reads them.

@@ -17,14 +17,16 @@ use Rattle.kat_term.specs.declared.term.Term.{Term}
 use Rattle.kat_term.specs.declared.term.Term.TheVariants.{Var as VarTerm}
 use Rattle.kat_term.specs.Fresh.{Fresh, FreshList, fresh_variable, fresh_fields, fresh_rec, fresh_within, fresh_of}
 use Rattle.kat_term.specs.Growth.{FreshValuesExtend, FreshValuesAreTerms, WorldsStay, WorldsHaveValuations, AnswersFresh, ExtendsBy, with_fresh}
-use Rattle.kat_term.specs.Operations.{type_of_layer, type_of_value}
-use Rattle.kat_term.specs.Types.{type_of_record, type_of, IsTermOf, IsValuation}
-use Rattle.kat_term.specs.Values.{Valuation, all_there, is_literal, value_of_record, value_of}
+use Rattle.kat_value.specs.Shown.{type_of_layer, type_of_value}
+use Rattle.kat_value.specs.OperationTypes.{type_of_record}
+use Rattle.kat_term.specs.Types.{type_of, IsTermOf, IsValuation}
+use Rattle.kat_value.specs.Making.{all_there, value_of_record}
+use Rattle.kat_term.specs.Values.{Valuation, is_literal, value_of}
 use Rattle.kat_term.specs.Views.{unit}
 use Rattle.kat_term.specs.Worlds.{World, HaveValues, IsFormulaOf, AreFormulasOf}
 use Rattle.kat_term.proofs.GrowthLaws.{values_stay, types_stay, truths_stay}
 use Rattle.kat_term.proofs.Layers.{value_of-Var, value_of-Lit, value_of-Rec, type_of-Var, type_of-Lit, type_of-Rec}
-use Rattle.kat_term.proofs.ShownTypes.{tested, has_type-out, out-Unit, same_self}
+use Rattle.kat_term.proofs.ValueLayers.{tested, has_type-out, out-Unit, same_self}
 
 -- the place behind a list
 get_behind : {A : Type 0} (xs : List A) (y : A) (n : ℕ) → length xs ≡ n → slice_get (xs ++ y ∷ []) n ≡ Some y

@@ -10,9 +10,11 @@ use Rattle.kat_term.specs.declared.term.Term.TheOpen.{Term-F, Var, Lit, Apply, M
 use Rattle.kat_term.specs.declared.term.Term.TheViews.{roll-Term}
 use Rattle.kat_term.specs.declared.term.Term.TheFolds.{map-Term, ind-Term}
 use Rattle.kat_term.specs.Growth.{ValuesStay, TypesStay, NarrowsBy, FormulasNarrow}
-use Rattle.kat_term.specs.Operations.{value_of_op}
-use Rattle.kat_term.specs.Types.{type_of_application, type_of_making, type_of_record, type_of}
-use Rattle.kat_term.specs.Values.{Valuation, all_there, value_of_making, value_of_record, value_of}
+use Rattle.kat_value.specs.Operations.{value_of_op}
+use Rattle.kat_value.specs.OperationTypes.{type_of_application, type_of_making, type_of_record}
+use Rattle.kat_term.specs.Types.{type_of}
+use Rattle.kat_value.specs.Making.{all_there, value_of_making, value_of_record}
+use Rattle.kat_term.specs.Values.{Valuation, value_of}
 use Rattle.kat_term.specs.Worlds.{World, IsTrueUnder, AreTrueUnder}
 use Rattle.kat_term.proofs.Layers.{value_roll, type_roll}
 

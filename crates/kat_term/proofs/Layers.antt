@@ -11,10 +11,13 @@ use Rattle.kat_term.specs.declared.term.Term.TheOpen.{Term-F, Var, Lit, Apply, M
 use Rattle.kat_term.specs.declared.term.Term.TheViews.{roll-Term}
 use Rattle.kat_term.specs.declared.term.Term.TheVariants.{Var as VarTerm, Lit as LitTerm, Apply as ApplyTerm, Make as MakeTerm, Rec as RecTerm, rolls-Var, rolls-Lit, rolls-Apply, rolls-Make, rolls-Rec}
 use Rattle.kat_term.specs.declared.term.Term.TheFolds.{map-Term, fold-roll-Term}
-use Rattle.kat_term.specs.Operations.{type_of_value, value_of_op}
+use Rattle.kat_value.specs.Operations.{value_of_op}
+use Rattle.kat_value.specs.Shown.{type_of_value}
 use Rattle.kat_term.specs.Parts.{TermsByParts}
-use Rattle.kat_term.specs.Types.{type_of_application, type_of_making, type_of_record, type_layer, type_of}
-use Rattle.kat_term.specs.Values.{Valuation, all_there, literal_value, value_of_making, value_of_record, value_layer, value_of}
+use Rattle.kat_value.specs.OperationTypes.{type_of_application, type_of_making, type_of_record}
+use Rattle.kat_term.specs.Types.{type_layer, type_of}
+use Rattle.kat_value.specs.Making.{all_there, value_of_making, value_of_record}
+use Rattle.kat_term.specs.Values.{Valuation, literal_value, value_layer, value_of}
 
 module _ (types : List TypeDecl) (v : Valuation) where
   pub value_roll : (y : Term-F Term) → value_of types v (roll-Term y) ≡ value_layer types v (map-Term Term (Option Value) (value_of types v) y)

@@ -2,8 +2,6 @@ pub mod FreshLaws
 pub mod FreshSteps
 pub mod GrowthLaws
 pub mod Layers
-pub mod NumbersBelow
-pub mod OperationTypes
-pub mod ShownTypes
 pub mod TermEquality
 pub mod TermTypes
+mod ValueLayers

@@ -1,30 +1,29 @@
 -- A term is of a type exactly where it has a value of that type.
-use Rattle.std.proofs.Common.{◌≡◌, ◌∙◌, ℕ, zero, suc, Bool, true, false, List, [], ◌∷◌, map, Option, Some, None, refl, ap, sym, subst, if◌then◌else◌}
-use Rattle.std.specs.Prelude.{◌==◌, ◌&&◌, slice_get, option_and_then}
+use Rattle.std.proofs.Common.{if◌then◌else◌, ◌≡◌, ◌∙◌, ℕ, zero, suc, Bool, true, false, List, [], ◌∷◌, map, Option, Some, None, refl, ap, sym, subst}
+use Rattle.std.specs.Prelude.{◌==◌, slice_get, option_and_then}
 use Rattle.std.specs.Option.{option_map}
 use Rattle.std.proofs.lemmas.Bool.{and_from, eq-eqb}
-use Rattle.kat_value.specs.declared.types.Field.{Field}
 use Rattle.kat_value.specs.declared.types.Ty.{Ty}
 use Rattle.kat_value.specs.declared.types.Ty.TheVariants as ty
 use Rattle.kat_value.specs.declared.types.TypeDecl.{TypeDecl}
 use Rattle.kat_value.specs.declared.value.Value.{Value, out-Value}
-use Rattle.kat_value.specs.declared.value.Value.TheVariants.{Made as MadeValue, Rec as RecValue}
 use Rattle.kat_value.specs.declared.value.Value.TheOpen.{Value-F, Unit as UnitLayer, Bool as TruthLayer, Bits as BitsLayer, Member as MemberLayer}
-use Rattle.kat_value.specs.Operations.{is_number}
-use Rattle.kat_value.specs.Signatures.{same_type}
-use Rattle.kat_value.specs.Typing.{HasType, has_type, layer_has_type, passes_ctor, pass_record, all_pass, ctor_at, fields_at}
+use Rattle.kat_value.specs.Widths.{is_number}
+use Rattle.kat_value.specs.Typing.{HasType, has_type, layer_has_type}
 use Rattle.kat_term.specs.declared.term.Term.{Term}
 use Rattle.kat_term.specs.declared.term.Term.TheOpen.{Term-F, Var, Lit, Apply, Make, Rec}
 use Rattle.kat_term.specs.declared.term.Term.TheViews.{roll-Term}
 use Rattle.kat_term.specs.declared.term.Term.TheFolds.{map-Term, ind-Term}
-use Rattle.kat_term.specs.Operations.{type_of_layer, type_of_value, value_of_op}
-use Rattle.kat_term.specs.Types.{type_of_application, type_of_making, type_of_record, type_of, IsTermOf, IsValuation, HasValueOf, TypesAreValues}
-use Rattle.kat_term.specs.Values.{Valuation, all_there, is_literal, literal_value, value_of_making, value_of_record, value_of}
+use Rattle.kat_value.specs.Making.{all_there, value_of_making, value_of_record}
+use Rattle.kat_value.specs.Operations.{value_of_op}
+use Rattle.kat_value.specs.OperationTypes.{IsValueThere, IsExact, ExactOperations, type_of_application, type_of_making, type_of_record}
+use Rattle.kat_value.specs.Shown.{type_of_layer, type_of_value, IsValue, AreValues, ShownTypes}
+use Rattle.kat_term.specs.Types.{type_of, IsTermOf, IsValuation, HasValueOf, TypesAreValues}
+use Rattle.kat_term.specs.Values.{Valuation, is_literal, literal_value, value_of}
 use Rattle.kat_term.proofs.Layers.{value_roll, type_roll}
-use Rattle.kat_term.proofs.OperationTypes.{IsValueThere, AreValues, IsExact, none_exact, op_exact}
-use Rattle.kat_term.proofs.ShownTypes.{tested, IsValue, is_value, shows, test_is, value_by_layer, shown-Made, shown-Rec, made_is_value, rec_is_value}
+use Rattle.kat_term.proofs.ValueLayers.{tested, has_type-out, none_exact}
 
-module _ (types : List TypeDecl) where
+module _ (shown : ShownTypes) (exact : ExactOperations) (types : List TypeDecl) where
   -- a literal is a value of the type that it shows
   literal_layer : (y : Value-F Value) → is_literal types y ≡ true → layer_has_type types (tested types y) (type_of_layer y) ≡ true
   literal_layer UnitLayer h = refl
@@ -36,42 +35,8 @@ module _ (types : List TypeDecl) where
   literal_exact : (x : Value) → IsExact types (literal_value types x) (option_map type_of_value (literal_value types x))
   literal_exact x = by (is_literal types (out-Value x)) refl where
     by : (b : Bool) → is_literal types (out-Value x) ≡ b → IsExact types (if b then Some x else None) (option_map type_of_value (if b then Some x else None))
-    by true e = record { typed = refl; there = value_by_layer types x (literal_layer (out-Value x) e) }
+    by true e = record { typed = refl; there = has_type-out types x (type_of_value x) ∙ literal_layer (out-Value x) e }
     by false e = none_exact types
-
-  -- the tests of a value are those of the type that it shows
-  ctor_test : (x : Value) → IsValue types x → (ctor : Option Field) → passes_ctor (has_type types x) ctor ≡ passes_ctor (same_type (type_of_value x)) ctor
-  ctor_test x is (Some ctor) = test_is types x is ctor.ty
-  ctor_test x is None = refl
-
-  all_test : (xs : List Value) → AreValues types xs → (fields : List Field) → all_pass (map (has_type types) xs) fields ≡ all_pass (map same_type (map type_of_value xs)) fields
-  all_test [] are [] = refl
-  all_test [] are (field ∷ fields) = refl
-  all_test (x ∷ xs) are [] = refl
-  all_test (x ∷ xs) are (field ∷ fields) =
-      ap (λ b. b && all_pass (map (has_type types) xs) fields) (test_is types x are.0 field.ty)
-      ∙ ap (λ b. same_type (type_of_value x) field.ty && b) (all_test xs are.1 fields)
-
-  record_test : (xs : List Value) → AreValues types xs → (declared : Option (List Field)) →
-      pass_record (map (has_type types) xs) declared ≡ pass_record (map same_type (map type_of_value xs)) declared
-  record_test xs are (Some fields) = all_test xs are fields
-  record_test xs are None = refl
-
-  making_exact : (of ctor : ℕ) (x : Value) → IsValue types x → IsExact types (value_of_making types of ctor x) (type_of_making types of ctor (type_of_value x))
-  making_exact of ctor x is =
-      subst (λ b. IsExact types (value_of_making types of ctor x) (if b then Some (ty.Union of) else None)) (ctor_test x is (ctor_at types of ctor))
-      (by (passes_ctor (has_type types x) (ctor_at types of ctor)) refl) where
-        by : (b : Bool) → passes_ctor (has_type types x) (ctor_at types of ctor) ≡ b → IsExact types (if b then Some (MadeValue of ctor x) else None) (if b then Some (ty.Union of) else None)
-        by true e = record { typed = ap Some (shown-Made of ctor x); there = made_is_value types of ctor x e }
-        by false e = none_exact types
-
-  fields_exact : (of : ℕ) (xs : List Value) → AreValues types xs → IsExact types (value_of_record types of xs) (type_of_record types of (map type_of_value xs))
-  fields_exact of xs are =
-      subst (λ b. IsExact types (value_of_record types of xs) (if b then Some (ty.Rec of) else None)) (record_test xs are (fields_at types of))
-      (by (pass_record (map (has_type types) xs) (fields_at types of)) refl) where
-        by : (b : Bool) → pass_record (map (has_type types) xs) (fields_at types of) ≡ b → IsExact types (if b then Some (RecValue of xs) else None) (if b then Some (ty.Rec of) else None)
-        by true e = record { typed = ap Some (shown-Rec of xs); there = rec_is_value types of xs e }
-        by false e = none_exact types
 
   -- what is made of one part, and of a list of them
   from_one : (f : Value → Option Value) (g : Ty → Option Ty) → ((x : Value) → IsValue types x → IsExact types (f x) (g (type_of_value x))) →
@@ -107,7 +72,7 @@ module _ (types : List TypeDecl) where
   var_exact [] [] fits i = none_exact types
   var_exact [] (x ∷ v) fits i = absurd fits
   var_exact (t ∷ vars) [] fits i = absurd fits
-  var_exact (t ∷ vars) (x ∷ v) fits zero = record { typed = ap Some (shows types t x fits.0); there = is_value types t x fits.0 }
+  var_exact (t ∷ vars) (x ∷ v) fits zero = record { typed = ap Some (shown.shows types t x fits.0); there = shown.value types t x fits.0 }
   var_exact (t ∷ vars) (x ∷ v) fits (suc i) = var_exact vars v fits.1 i
 
   module _ (vars : List Ty) (v : Valuation) (fits : IsValuation types vars v) where
@@ -138,13 +103,13 @@ module _ (types : List TypeDecl) where
     layer_typed (Lit x) = at_layer (Lit x) _ _ (value_roll types v (Lit x)) (type_roll types vars (Lit x)) (literal_exact x)
     layer_typed (Apply op ts) =
         at_layer (Apply op (terms ts)) _ _ (value_roll types v (Apply op (terms ts))) (type_roll types vars (Apply op (terms ts)))
-        (from_list (value_of_op op) (type_of_application types op) (op_exact types op) _ _ (all_exact ts))
+        (from_list (value_of_op op) (type_of_application types op) (exact.operation types op) _ _ (all_exact ts))
     layer_typed (Make of ctor e) =
         at_layer (Make of ctor e.0) _ _ (value_roll types v (Make of ctor e.0)) (type_roll types vars (Make of ctor e.0))
-        (from_one (value_of_making types of ctor) (type_of_making types of ctor) (making_exact of ctor) _ _ e.1)
+        (from_one (value_of_making types of ctor) (type_of_making types of ctor) (exact.making types of ctor) _ _ e.1)
     layer_typed (Rec of ts) =
         at_layer (Rec of (terms ts)) _ _ (value_roll types v (Rec of (terms ts))) (type_roll types vars (Rec of (terms ts)))
-        (from_list (value_of_record types of) (type_of_record types of) (fields_exact of) _ _ (all_exact ts))
+        (from_list (value_of_record types of) (type_of_record types of) (exact.fields types of) _ _ (all_exact ts))
 
     pub typed_exactly : (t : Term) → IsTyped t
     typed_exactly = ind-Term IsTyped (λ x y is. subst (λ z. IsTyped (roll-Term z)) is (layer_typed y))
@@ -152,8 +117,8 @@ module _ (types : List TypeDecl) where
     has_value : (t : Ty) (o : Option Value) → IsValueThere types o → option_map type_of_value o ≡ Some t → (x : Value) × (o ≡ Some x) × HasType types t x
     has_value t None there e = cc
     has_value t (Some x) there e =
-        let shown : type_of_value x ≡ t = cc in
-        (x, refl, subst (λ u. has_type types x u ≡ true) shown there)
+        let shows : type_of_value x ≡ t = cc in
+        (x, refl, subst (λ u. has_type types x u ≡ true) shows there)
 
     pub value_there : (t : Ty) (term : Term) → IsTermOf types vars t term → HasValueOf types v t term
     value_there t term is =
@@ -162,7 +127,8 @@ module _ (types : List TypeDecl) where
 
     pub type_there : (t : Ty) (term : Term) → HasValueOf types v t term → IsTermOf types vars t term
     type_there t term has =
-        sym (typed_exactly term).typed ∙ ap (option_map type_of_value) has.1 ∙ ap Some (shows types t has.0 has.2)
+        sym (typed_exactly term).typed ∙ ap (option_map type_of_value) has.1 ∙ ap Some (shown.shows types t has.0 has.2)
 
-pub types_are_values : TypesAreValues
-types_are_values types vars v fits t term = (value_there types vars v fits t term, type_there types vars v fits t term)
+pub types_are_values : ShownTypes → ExactOperations → TypesAreValues
+types_are_values shown exact types vars v fits t term =
+    (value_there shown exact types vars v fits t term, type_there shown exact types vars v fits t term)

@@ -2,7 +2,6 @@ pub mod Equality
 pub mod Fresh
 pub mod Growth
 pub mod Limits
-pub mod Operations
 pub mod Order
 pub mod Parts
 pub mod Provers
@@ -12,3 +11,4 @@ pub mod Types
 pub mod Values
 pub mod Views
 pub mod Worlds
+pub mod formers

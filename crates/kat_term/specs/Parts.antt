@@ -7,9 +7,12 @@ use Rattle.kat_value.specs.declared.types.TypeDecl.{TypeDecl}
 use Rattle.kat_value.specs.declared.value.Value.{Value}
 use Rattle.kat_term.specs.declared.term.Term.{Term}
 use Rattle.kat_term.specs.declared.term.Term.TheVariants.{Var, Lit, Apply, Make, Rec}
-use Rattle.kat_term.specs.Operations.{type_of_value, value_of_op}
-use Rattle.kat_term.specs.Types.{type_of_application, type_of_making, type_of_record, type_of}
-use Rattle.kat_term.specs.Values.{Valuation, all_there, literal_value, value_of_making, value_of_record, value_of}
+use Rattle.kat_value.specs.Operations.{value_of_op}
+use Rattle.kat_value.specs.Shown.{type_of_value}
+use Rattle.kat_value.specs.OperationTypes.{type_of_application, type_of_making, type_of_record}
+use Rattle.kat_term.specs.Types.{type_of}
+use Rattle.kat_value.specs.Making.{all_there, value_of_making, value_of_record}
+use Rattle.kat_term.specs.Values.{Valuation, literal_value, value_of}
 
 -- the value of each kind of term under a valuation
 pub record ValuesByParts (types : List TypeDecl) (v : Valuation) : Type 0 where

@@ -1,32 +1,17 @@
 -- The type of a term.
 use Rattle.std.specs.Prelude.{◌≡◌, ◌↔◌, ℕ, if◌then◌else◌, List, [], ◌∷◌, map, Option, Some, None, slice_get, option_and_then}
 use Rattle.std.specs.Option.{option_map}
-use Rattle.kat_value.specs.declared.op.Op.{Op}
 use Rattle.kat_value.specs.declared.types.Ty.{Ty}
-use Rattle.kat_value.specs.declared.types.Ty.TheVariants as ty
 use Rattle.kat_value.specs.declared.types.TypeDecl.{TypeDecl}
 use Rattle.kat_value.specs.declared.value.Value.{Value}
-use Rattle.kat_value.specs.Signatures.{same_type, type_of_op}
-use Rattle.kat_value.specs.Typing.{HasType, ctor_at, fields_at, passes_ctor, pass_record}
+use Rattle.kat_value.specs.Typing.{HasType}
 use Rattle.kat_term.specs.declared.term.Term.{Term}
 use Rattle.kat_term.specs.declared.term.Term.TheOpen.{Term-F, Var, Lit, Apply, Make, Rec}
 use Rattle.kat_term.specs.declared.term.Term.TheFolds.{fold-Term}
-use Rattle.kat_term.specs.Operations.{type_of_value}
-use Rattle.kat_term.specs.Values.{Valuation, all_there, literal_value, value_of}
-
--- the type of an operation on terms of these types; none where it does not take them
-abbrev pub type_of_application : List TypeDecl → Op → List Ty → Option Ty
-type_of_application types op args = type_of_op types op (map Some args)
-
--- the type of a constructor of a union on a payload of this type
-abbrev pub type_of_making : List TypeDecl → ℕ → ℕ → Ty → Option Ty
-type_of_making types of ctor t =
-    if passes_ctor (same_type t) (ctor_at types of ctor) then Some (ty.Union of) else None
-
--- the type of a record with fields of these types
-abbrev pub type_of_record : List TypeDecl → ℕ → List Ty → Option Ty
-type_of_record types of ts =
-    if pass_record (map same_type ts) (fields_at types of) then Some (ty.Rec of) else None
+use Rattle.kat_value.specs.OperationTypes.{type_of_application, type_of_making, type_of_record}
+use Rattle.kat_value.specs.Shown.{type_of_value}
+use Rattle.kat_value.specs.Making.{all_there}
+use Rattle.kat_term.specs.Values.{Valuation, literal_value, value_of}
 
 -- one layer of a term, with the type of each part in its place
 abbrev pub type_layer : List TypeDecl → List Ty → Term-F (Option Ty) → Option Ty

@@ -1,25 +1,19 @@
 -- The value of a term under a valuation of the variables.
 use Rattle.std.specs.Prelude.{◌≡◌, ℕ, Bool, true, false, nat_lt, if◌then◌else◌, List, [], ◌∷◌, map, Option, Some, None, slice_get, option_and_then}
-use Rattle.std.specs.Option.{option_map}
 use Rattle.kat_value.specs.declared.types.TypeDecl.{TypeDecl}
 use Rattle.kat_value.specs.declared.value.Value.{Value, out-Value}
-use Rattle.kat_value.specs.declared.value.Value.TheVariants.{Made, Rec}
 use Rattle.kat_value.specs.declared.value.Value.TheOpen.{Value-F, Unit as UnitLayer, Bool as TruthLayer, Bits as BitsLayer, Member as MemberLayer}
-use Rattle.kat_value.specs.Operations.{is_number}
-use Rattle.kat_value.specs.Typing.{has_type, member_count, ctor_at, fields_at, passes_ctor, pass_record}
+use Rattle.kat_value.specs.Widths.{is_number}
+use Rattle.kat_value.specs.Making.{all_there, value_of_making, value_of_record}
+use Rattle.kat_value.specs.Typing.{member_count}
 use Rattle.kat_term.specs.declared.term.Term.{Term}
 use Rattle.kat_term.specs.declared.term.Term.TheOpen.{Term-F, Var, Lit, Apply, Make as Making, Rec as Record}
 use Rattle.kat_term.specs.declared.term.Term.TheFolds.{fold-Term}
-use Rattle.kat_term.specs.Operations.{value_of_op}
+use Rattle.kat_value.specs.Operations.{value_of_op}
 
 -- a value for each variable, by its number
 abbrev pub Valuation : Type 0
 Valuation = List Value
-
--- all of them, where each is there
-abbrev pub all_there : {A : Type 0} → List (Option A) → Option (List A)
-all_there [] = Some []
-all_there (a ∷ more) = option_and_then (λ x. option_map (λ xs. x ∷ xs) (all_there more)) a
 
 -- whether one layer of a value is a literal: of type unit, bool or bits or of an enum, and of that
 -- type; the values of unions and records are made
@@ -33,16 +27,6 @@ is_literal types _ = false
 -- the value of a literal
 abbrev pub literal_value : List TypeDecl → Value → Option Value
 literal_value types x = if is_literal types (out-Value x) then Some x else None
-
--- what a constructor of a union gives on a payload of its type
-abbrev pub value_of_making : List TypeDecl → ℕ → ℕ → Value → Option Value
-value_of_making types of ctor x =
-    if passes_ctor (has_type types x) (ctor_at types of ctor) then Some (Made of ctor x) else None
-
--- the record of fields of its types
-abbrev pub value_of_record : List TypeDecl → ℕ → List Value → Option Value
-value_of_record types of xs =
-    if pass_record (map (has_type types) xs) (fields_at types of) then Some (Rec of xs) else None
 
 -- one layer of a term, with the value of each part in its place
 abbrev pub value_layer : List TypeDecl → Valuation → Term-F (Option Value) → Option Value

@@ -7,9 +7,10 @@ ghost use Rattle.kat_term.specs.Views.{MadeTerm, RecTerm, ThreeTerms, one, two, 
 ghost use Rattle.kat_term.specs.declared.term.Term.TheVariants.{Var, Lit, Apply, Make as MakeTerm, Rec as Record};
 
 use crate::equality::same_op;
+use crate::shared::Shared;
 use crate::term::{Term, Terms};
 use kat_value::{Op, Value};
-use sqlite_items::{Boxed, Items};
+use sqlite_items::Items;
 use std::alloc::{AllocError, Global};
 
 /// The variable with this number.
@@ -55,30 +56,28 @@ pub fn member(of: u32, index: u32) -> Term
     Term::Lit(Value::Member { of, index })
 }
 
-/// An operation on terms. It takes no memory.
-pub fn apply(op: Op, args: Terms) -> Term
-    ensures { result ≡ Apply op args }
+/// An operation on terms.
+pub fn apply(alloc: Global, op: Op, args: Terms) -> Result<Term, AllocError>
+    ensures { IfOk result (λ t. t ≡ Apply op args) }
 {
-    Term::Apply { op, args }
+    Ok(Term::Apply {
+        op,
+        args: Shared::new(alloc, args)?,
+    })
 }
 
 /// An operation on one term.
 pub fn apply_one(alloc: Global, op: Op, first: Term) -> Result<Term, AllocError>
     ensures { IfOk result (λ t. t ≡ one op first) }
 {
-    let mut args = Items::new(alloc);
-    args.push(first)?;
-    Ok(Term::Apply { op, args })
+    apply(alloc, op, Items::from_vec(vec![in alloc; first]?))
 }
 
 /// An operation on two terms.
 pub fn apply_two(alloc: Global, op: Op, first: Term, second: Term) -> Result<Term, AllocError>
     ensures { IfOk result (λ t. t ≡ two op first second) }
 {
-    let mut args = Items::new(alloc);
-    args.push(first)?;
-    args.push(second)?;
-    Ok(Term::Apply { op, args })
+    apply(alloc, op, Items::from_vec(vec![in alloc; first, second]?))
 }
 
 /// An operation on three terms.
@@ -91,11 +90,8 @@ pub fn apply_three(
 ) -> Result<Term, AllocError>
     ensures { IfOk result (λ t. t ≡ three op first second third) }
 {
-    let mut args = Items::new(alloc);
-    args.push(first)?;
-    args.push(second)?;
-    args.push(third)?;
-    Ok(Term::Apply { op, args })
+    let args = vec![in alloc; first, second, third]?;
+    apply(alloc, op, Items::from_vec(args))
 }
 
 /// A constructor of a union on its payload.
@@ -105,15 +101,18 @@ pub fn make(alloc: Global, of: u32, ctor: u32, inner: Term) -> Result<Term, Allo
     Ok(Term::Make {
         of,
         ctor,
-        inner: Boxed::new(alloc, inner)?,
+        inner: Shared::new(alloc, inner)?,
     })
 }
 
-/// A record of its fields. It takes no memory.
-pub fn rec(of: u32, fields: Terms) -> Term
-    ensures { result ≡ Record of fields }
+/// A record of its fields.
+pub fn rec(alloc: Global, of: u32, fields: Terms) -> Result<Term, AllocError>
+    ensures { IfOk result (λ t. t ≡ Record of fields) }
 {
-    Term::Rec { of, fields }
+    Ok(Term::Rec {
+        of,
+        fields: Shared::new(alloc, fields)?,
+    })
 }
 
 /// The number of a term that is a variable.
@@ -171,7 +170,7 @@ pub fn arg_of(op: Op, term: &Term) -> Option<&Term>
     ensures { arg_of op term.now ≡ option_copied result }
 {
     match term {
-        Term::Apply { op: found, args } if same_op(*found, op) => match args.as_slice() {
+        Term::Apply { op: found, args } if same_op(*found, op) => match args.get().as_slice() {
             [first] => Some(first),
             _ => None,
         },
@@ -192,7 +191,7 @@ pub fn args_of(op: Op, term: &Term) -> Option<Two<'_>>
         ≡ option_map (λ args. (args.first.now, args.second.now)) result }
 {
     match term {
-        Term::Apply { op: found, args } if same_op(*found, op) => match args.as_slice() {
+        Term::Apply { op: found, args } if same_op(*found, op) => match args.get().as_slice() {
             [first, second] => Some(Two { first, second }),
             _ => None,
         },
@@ -217,7 +216,7 @@ pub fn three_args_of(op: Op, term: &Term) -> Option<Three<'_>>
     }) result }
 {
     match term {
-        Term::Apply { op: found, args } if same_op(*found, op) => match args.as_slice() {
+        Term::Apply { op: found, args } if same_op(*found, op) => match args.get().as_slice() {
             [first, second, third] => Some(Three {
                 first,
                 second,
@@ -267,7 +266,7 @@ pub fn rec_in(term: &Term) -> Option<RecParts<'_>>
     match term {
         Term::Rec { of, fields } => Some(RecParts {
             of: *of,
-            fields: fields.as_slice(),
+            fields: fields.get().as_slice(),
         }),
         _ => None,
     }

@@ -4,11 +4,10 @@ ghost use Rattle.std.specs.Prelude.{◌≡◌, IfOk};
 
 use crate::term::{Term, Terms};
 use kat_value::copy_value;
-use sqlite_items::{Boxed, Items};
+use sqlite_items::Items;
 use std::alloc::{AllocError, Global};
 
-/// An equal term in memory of its own.
-#[cycle(copy)]
+/// An equal term, which shares its parts.
 pub fn copy_term(alloc: Global, term: &Term) -> Result<Term, AllocError>
     ensures { IfOk result (λ t. t ≡ term.now) }
 {
@@ -17,22 +16,21 @@ pub fn copy_term(alloc: Global, term: &Term) -> Result<Term, AllocError>
         Term::Lit(value) => Ok(Term::Lit(copy_value(alloc, value)?)),
         Term::Apply { op, args } => Ok(Term::Apply {
             op: *op,
-            args: copy_terms(alloc, args.as_slice())?,
+            args: args.share()?,
         }),
         Term::Make { of, ctor, inner } => Ok(Term::Make {
             of: *of,
             ctor: *ctor,
-            inner: Boxed::new(alloc, copy_term(alloc, inner.get())?)?,
+            inner: inner.share()?,
         }),
         Term::Rec { of, fields } => Ok(Term::Rec {
             of: *of,
-            fields: copy_terms(alloc, fields.as_slice())?,
+            fields: fields.share()?,
         }),
     }
 }
 
-/// An equal list of terms in memory of its own.
-#[cycle(copy)]
+/// An equal list of terms, each of which shares its parts.
 pub fn copy_terms(alloc: Global, terms: &[Term]) -> Result<Terms, AllocError>
     ensures { IfOk result (λ ts. ts ≡ terms.now) }
 {

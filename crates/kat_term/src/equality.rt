@@ -21,7 +21,7 @@ pub fn same_term(a: &Term, b: &Term) -> bool
                 op: other_op,
                 args: other_args,
             },
-        ) => same_op(*op, *other_op) && same_terms(args, other_args),
+        ) => same_op(*op, *other_op) && same_terms(args.get(), other_args.get()),
         (
             Term::Make { of, ctor, inner },
             Term::Make {
@@ -36,7 +36,7 @@ pub fn same_term(a: &Term, b: &Term) -> bool
                 of: other_of,
                 fields: other_fields,
             },
-        ) => *of == *other_of && same_terms(fields, other_fields),
+        ) => *of == *other_of && same_terms(fields.get(), other_fields.get()),
         _ => false,
     }
 }

@@ -7,6 +7,7 @@ ghost use Rattle.kat_term.specs.Limits.{max_vars};
 
 use crate::build::unit;
 use crate::limits::MAX_VARS;
+use crate::shared::Shared;
 use crate::term::Term;
 use kat_value::{Field, Ty, TypeDecl, Types};
 use sqlite_items::Items;
@@ -83,7 +84,10 @@ fn fresh_record(
         let term = fresh_value(alloc, vars, types, levels, field.ty)?;
         terms.push(term)?;
     }
-    Ok(Term::Rec { of, fields: terms })
+    Ok(Term::Rec {
+        of,
+        fields: Shared::new(alloc, terms)?,
+    })
 }
 
 /// Unit, or a new variable of this type.

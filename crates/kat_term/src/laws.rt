@@ -5,7 +5,7 @@ ghost use Rattle.kat_term.specs.Growth.{FreshValuesExtend, FreshValuesAreTerms, 
 ghost use Rattle.kat_term.specs.Parts.{TermsByParts};
 ghost use Rattle.kat_term.specs.Types.{TypesAreValues};
 
-use kat_value::equality_is_tested;
+use kat_value::{equality_is_tested, operations_are_exact, values_show_types};
 
 /// The tests that compute whether two operations or two terms are equal hold of equal ones, and of
 /// no others.
@@ -20,7 +20,10 @@ pub fn equal_terms_are_tested()
 /// operation, a constructor or a record has a value exactly on values of types that it takes.
 pub fn types_are_values()
     ensures { TypesAreValues }
-{}
+{
+    values_show_types();
+    operations_are_exact();
+}
 
 /// Worlds only grow. Each old term keeps its value and its type; a fresh value is a term of its
 /// type and may have every value of it; a formula narrows the valuations that fit to those that

@@ -26,7 +26,7 @@ pub fn compare_terms(a: &Term, b: &Term) -> Ordering
                 op: other_op,
                 args: other_args,
             },
-        ) => compare_ops(*op, *other_op).then(compare_all(args, other_args)),
+        ) => compare_ops(*op, *other_op).then(compare_all(args.get(), other_args.get())),
         (
             Term::Make { ctor, inner, .. },
             Term::Make {
@@ -43,7 +43,7 @@ pub fn compare_terms(a: &Term, b: &Term) -> Ordering
                 fields: other_fields,
                 ..
             },
-        ) => compare_all(fields, other_fields),
+        ) => compare_all(fields.get(), other_fields.get()),
         _ => place_of_kind(a).cmp(&place_of_kind(b)),
     }
 }

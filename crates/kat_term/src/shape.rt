@@ -33,7 +33,7 @@ pub fn shape_of(term: &Term) -> Shape<'_>
         Term::Lit(value) => Shape::Lit(value),
         Term::Apply { op, args } => Shape::Apply {
             op: *op,
-            args: args.as_slice(),
+            args: args.get().as_slice(),
         },
         Term::Make { of, ctor, inner } => Shape::Make {
             of: *of,
@@ -42,7 +42,7 @@ pub fn shape_of(term: &Term) -> Shape<'_>
         },
         Term::Rec { of, fields } => Shape::Rec {
             of: *of,
-            fields: fields.as_slice(),
+            fields: fields.get().as_slice(),
         },
     }
 }

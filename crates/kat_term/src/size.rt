@@ -1,6 +1,6 @@
 //! The nodes and the depth of a term, gone over no further than a limit.
 
-ghost use Rattle.std.specs.Prelude.{◌≡◌, ◌+◌, ◌<◌, nat_le, sum, MatchOption, map};
+ghost use Rattle.std.specs.Prelude.{◌≡◌, ◌+◌, ◌<◌, ◌≤◌, ◌⊎◌, nat_le, sum, MatchOption, map};
 ghost use Rattle.kat_term.specs.Sizes.{nodes, depth, greatest};
 
 use crate::term::Term;
@@ -13,9 +13,9 @@ pub fn nodes_within(term: &Term, room: u32) -> Option<u32>
 {
     let rest = room.checked_sub(1)?;
     match term {
-        Term::Apply { args, .. } => all_within(args.as_slice(), rest),
+        Term::Apply { args, .. } => all_within(args.get().as_slice(), rest),
         Term::Make { inner, .. } => nodes_within(inner.get(), rest),
-        Term::Rec { fields, .. } => all_within(fields.as_slice(), rest),
+        Term::Rec { fields, .. } => all_within(fields.get().as_slice(), rest),
         Term::Var(_) | Term::Lit(_) => Some(rest),
     }
 }
@@ -33,6 +33,38 @@ fn all_within(terms: &[Term], room: u32) -> Option<u32>
     Some(rest)
 }
 
+/// What is left of a room for nodes behind a term that is no deeper than this; none exactly where
+/// it has more nodes or is deeper. It asks both in one go.
+#[cycle(room)]
+pub fn room_behind(term: &Term, room: u32, most: u32) -> Option<u32>
+    ensures { MatchOption result ((room < nodes term.now) ⊎ (most < depth term.now))
+        (λ rest. (nodes term.now + rest ≡ room) × (depth term.now ≤ most)) }
+{
+    let rest = room.checked_sub(1)?;
+    let deeper = most.checked_sub(1)?;
+    match term {
+        Term::Apply { args, .. } => room_behind_all(args.get().as_slice(), rest, deeper),
+        Term::Make { inner, .. } => room_behind(inner.get(), rest, deeper),
+        Term::Rec { fields, .. } => room_behind_all(fields.get().as_slice(), rest, deeper),
+        Term::Var(_) | Term::Lit(_) => Some(rest),
+    }
+}
+
+/// The same of terms.
+#[cycle(room)]
+fn room_behind_all(terms: &[Term], room: u32, most: u32) -> Option<u32>
+    ensures { MatchOption result
+        ((room < sum (map nodes terms.now)) ⊎ (most < greatest (map depth terms.now)))
+        (λ rest. (sum (map nodes terms.now) + rest ≡ room)
+        × (greatest (map depth terms.now) ≤ most)) }
+{
+    let mut rest = room;
+    for term in terms {
+        rest = room_behind(term, rest, most)?;
+    }
+    Some(rest)
+}
+
 /// Whether a term's depth is at most this. It goes no deeper.
 #[cycle(depth)]
 pub fn has_depth(term: &Term, most: u32) -> bool
@@ -42,9 +74,9 @@ pub fn has_depth(term: &Term, most: u32) -> bool
         return false;
     }
     match term {
-        Term::Apply { args, .. } => all_have_depth(args.as_slice(), most - 1),
+        Term::Apply { args, .. } => all_have_depth(args.get().as_slice(), most - 1),
         Term::Make { inner, .. } => has_depth(inner.get(), most - 1),
-        Term::Rec { fields, .. } => all_have_depth(fields.as_slice(), most - 1),
+        Term::Rec { fields, .. } => all_have_depth(fields.get().as_slice(), most - 1),
         Term::Var(_) | Term::Lit(_) => true,
     }
 }

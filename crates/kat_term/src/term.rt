@@ -1,11 +1,13 @@
 //! Terms.
 
+use crate::shared::Shared;
 use kat_value::{Op, Value};
-use sqlite_items::{Boxed, Items};
+use sqlite_items::Items;
 
 /// A term over the variables of a world. `of` is the position of a declared type in the table of
 /// types, `ctor` that of a constructor in its union. Other crates make terms by the calls of
 /// `build` and take them apart by those and by `shape_of`; they cannot name a variant to make one.
+/// The parts of a term are shared by its copies.
 #[derive(Debug, Drop)]
 #[non_exhaustive]
 pub enum Term {
@@ -19,20 +21,20 @@ pub enum Term {
     #[non_exhaustive]
     Apply {
         op: Op,
-        args: Terms,
+        args: Shared<Terms>,
     },
     /// A constructor of a union with its payload.
     #[non_exhaustive]
     Make {
         of: u32,
         ctor: u32,
-        inner: Boxed<Term>,
+        inner: Shared<Term>,
     },
     /// A record with its fields in order.
     #[non_exhaustive]
     Rec {
         of: u32,
-        fields: Terms,
+        fields: Shared<Terms>,
     },
 }
 

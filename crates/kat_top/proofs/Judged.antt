@@ -9,12 +9,11 @@ use Rattle.kat_tree.specs.Faults.{IsFirstFault}
 use Rattle.kat_ast.specs.Spec.{Spec}
 use Rattle.kat_ast.specs.Specifications.{Reads}
 use Rattle.std.specs.Prelude.{MatchOption}
-use Rattle.kat_syntax.specs.FirstForm.{are_first_decls}
 use Rattle.kat_syntax.specs.FirstTypeFault.{TypeFault, IsTyped, first_type_fault}
 use Rattle.kat_syntax.specs.Modes.{ModeFault}
 use Rattle.kat_shapes.specs.declared.misfit.Misfit.{Misfit}
 use Rattle.kat_forms.specs.Reading.{IsFirstMisfit}
-use Rattle.kat_image.specs.Image.{IsImageOf}
+use Rattle.kat_image.specs.Image.{IsImageOf, IsFirstRefused}
 use Rattle.kat_top.specs.declared.fault.Fault.{Fault}
 use Rattle.kat_top.specs.declared.fault.Fault.TheVariants as fault
 use Rattle.kat_top.specs.declared.fault.TreeKind.{TreeKind}
@@ -23,7 +22,7 @@ use Rattle.kat_top.specs.declared.status.Status.{Status}
 use Rattle.kat_top.specs.declared.status.Status.TheVariants as status
 use Rattle.kat_top.specs.FileLaws.{FileLaws}
 use Rattle.kat_top.specs.Statuses.{status_of_fault}
-use Rattle.kat_top.specs.Inputs.{Kind, ASpec, AModed, AMachine, AnImage, Thing, TheSpec, TheModed, TheMachine, TheState, machine_of, tree_error, IsTypedAndModed, IsNoTree, IsNoSpec, IsNotTyped, IsNotModed, IsIllTyped, IsIllTypedAs, IsNotBuilt, IsReadAs, IsRefusedAs}
+use Rattle.kat_top.specs.Inputs.{Kind, ASpec, AModed, AnImage, Thing, TheSpec, TheModed, TheState, machine_of, tree_error, IsTypedAndModed, IsNoTree, IsNoSpec, IsNotTyped, IsNotModed, IsIllTyped, IsIllTypedAs, IsReadAs, IsRefusedAs}
 
 -- the fault of an error of a tree
 abbrev pub fault_of_error : TreeError → Fault
@@ -32,7 +31,7 @@ fault_of_error (error.Unclosed at) = fault.Tree Unclosed at
 fault_of_error (error.Stray at) = fault.Tree Stray at
 fault_of_error (error.BadToken at) = fault.Tree BadToken at
 fault_of_error (error.Deep at) = fault.Tree Deep at
-fault_of_error error.Memory = fault.Unbuilt
+fault_of_error error.Memory = fault.Usage
 
 tells_fault : (kind : TreeKind) (offset : ℕ) → fault_of_error (tree_error kind offset) ≡ fault.Tree kind offset
 tells_fault NotText offset = refl
@@ -70,10 +69,6 @@ refused_status earlier ASpec bytes said (inr x) = form_status said (no_spec_stat
 refused_status earlier AModed bytes said (inl x) = subst IsOfText (sym (ill_typed_status x.spec said x.first)) tt
 refused_status earlier AModed bytes said (inr (inl x)) = form_status said (no_tree_status bytes said x)
 refused_status earlier AModed bytes said (inr (inr x)) = form_status said (no_spec_status bytes said x)
-refused_status earlier AMachine bytes said (inl x) = subst IsOfText (sym (ill_typed_status x.spec said x.first)) tt
-refused_status earlier AMachine bytes said (inr (inl x)) = form_status said (ap status_of_fault x.said_is)
-refused_status earlier AMachine bytes said (inr (inr (inl x))) = form_status said (no_tree_status bytes said x)
-refused_status earlier AMachine bytes said (inr (inr (inr x))) = form_status said (no_spec_status bytes said x)
 refused_status earlier AnImage bytes said x = form_status said (ap status_of_fault x.said_is)
 
 module _ (laws : FileLaws) where
@@ -156,37 +151,19 @@ module _ (laws : FileLaws) where
   refused_by earlier AModed bytes said (inl x) = inl (ill_typed_status x.spec said x.first, (x.spec, x.reads, failing x.spec said x.first))
   refused_by earlier AModed bytes said (inr (inl x)) = inr (no_tree_status bytes said x, λ u. read_or_no_tree bytes u.0 said u.1 x)
   refused_by earlier AModed bytes said (inr (inr x)) = inr (no_spec_status bytes said x, λ u. read_or_no_spec bytes u.0 said u.1 x)
-  refused_by earlier AMachine bytes said (inl x) = inl (ill_typed_status x.spec said x.first, (x.spec, x.reads, failing x.spec said x.first))
-  refused_by earlier AMachine bytes said (inr (inl x)) = inr (ap status_of_fault x.said_is, λ u. passing_read bytes x.spec x.reads x.passes u)
-  refused_by earlier AMachine bytes said (inr (inr (inl x))) = inr (no_tree_status bytes said x, λ u. read_or_no_tree bytes u.0 said u.1 x)
-  refused_by earlier AMachine bytes said (inr (inr (inr x))) = inr (no_spec_status bytes said x, λ u. read_or_no_spec bytes u.0 said u.1 x)
   refused_by earlier AnImage bytes said x = inr (ap status_of_fault x.said_is, λ u. u)
 
   pub not_untyped : (earlier : List Thing) (kind : Kind) (bytes : List ℕ) (thing : Thing) → IsReadAs earlier kind bytes thing → IsIllTypedAs kind bytes → ⊥
   not_untyped earlier ASpec bytes thing x u = u
   not_untyped earlier AModed bytes thing (s, x, r) u = passing_read bytes s r.reads r.passes u
-  not_untyped earlier AMachine bytes thing (s, x, r) u = passing_read bytes s r.reads r.passes u
   not_untyped earlier AnImage bytes thing x u = u
 
   pub one_thing : (earlier : List Thing) (kind : Kind) (bytes : List ℕ) (a b : Thing) → IsReadAs earlier kind bytes a → IsReadAs earlier kind bytes b → a ≡ b
   one_thing earlier ASpec bytes a b (s, x, r) (t, y, q) = x ∙ ap TheSpec (laws.one_spec bytes s t r q) ∙ sym y
   one_thing earlier AModed bytes a b (s, x, r) (t, y, q) = x ∙ ap TheModed (laws.one_spec bytes s t r.reads q.reads) ∙ sym y
-  one_thing earlier AMachine bytes a b (s, x, r) (t, y, q) = x ∙ ap TheMachine (laws.one_spec bytes s t r.reads q.reads) ∙ sym y
   one_thing earlier AnImage bytes a b (m, s, f, x, r) (n, t, g, y, q) =
       let e = same_machine (machine_of earlier) n m g f in
       x ∙ ap TheState (laws.one_state m bytes s t r (subst (λ k. IsImageOf k bytes t) e q)) ∙ sym y
-
-  -- what is not built, no tree or no specification, is one of them and once
-  unbuilt_once : (bytes : List ℕ) (a b : Fault) → IsNotBuilt bytes a ⊎ (IsNoTree bytes a ⊎ IsNoSpec bytes a) → IsNotBuilt bytes b ⊎ (IsNoTree bytes b ⊎ IsNoSpec bytes b) → a ≡ b
-  unbuilt_once bytes a b (inl x) (inl y) = x.said_is ∙ sym y.said_is
-  unbuilt_once bytes a b (inl x) (inr (inl y)) = absurd (read_or_no_tree bytes x.spec b x.reads y)
-  unbuilt_once bytes a b (inl x) (inr (inr y)) = absurd (read_or_no_spec bytes x.spec b x.reads y)
-  unbuilt_once bytes a b (inr (inl x)) (inl y) = absurd (read_or_no_tree bytes y.spec a y.reads x)
-  unbuilt_once bytes a b (inr (inr x)) (inl y) = absurd (read_or_no_spec bytes y.spec a y.reads x)
-  unbuilt_once bytes a b (inr (inl x)) (inr (inl y)) = no_tree_once bytes a b x y
-  unbuilt_once bytes a b (inr (inl x)) (inr (inr y)) = absurd (no_tree_no_spec bytes a b x y)
-  unbuilt_once bytes a b (inr (inr x)) (inr (inl y)) = absurd (no_tree_no_spec bytes b a y x)
-  unbuilt_once bytes a b (inr (inr x)) (inr (inr y)) = no_spec_once bytes a b x y
 
   pub one_fault : (earlier : List Thing) (kind : Kind) (bytes : List ℕ) (a b : Fault) → IsRefusedAs earlier kind bytes a → IsRefusedAs earlier kind bytes b → a ≡ b
   one_fault earlier ASpec bytes a b (inl x) (inl y) = no_tree_once bytes a b x y
@@ -202,15 +179,10 @@ module _ (laws : FileLaws) where
   one_fault earlier AModed bytes a b (inr (inl x)) (inr (inr y)) = absurd (no_tree_no_spec bytes a b x y)
   one_fault earlier AModed bytes a b (inr (inr x)) (inr (inl y)) = absurd (no_tree_no_spec bytes b a y x)
   one_fault earlier AModed bytes a b (inr (inr x)) (inr (inr y)) = no_spec_once bytes a b x y
-  one_fault earlier AMachine bytes a b (inl x) (inl y) = ill_typed_once bytes a b x y
-  one_fault earlier AMachine bytes a b (inl x) (inr (inl y)) = absurd (ill_typed_read bytes y.spec a y.reads y.passes x)
-  one_fault earlier AMachine bytes a b (inl x) (inr (inr (inl y))) = absurd (read_or_no_tree bytes x.spec b x.reads y)
-  one_fault earlier AMachine bytes a b (inl x) (inr (inr (inr y))) = absurd (read_or_no_spec bytes x.spec b x.reads y)
-  one_fault earlier AMachine bytes a b (inr (inl x)) (inl y) = absurd (ill_typed_read bytes x.spec b x.reads x.passes y)
-  one_fault earlier AMachine bytes a b (inr (inr (inl x))) (inl y) = absurd (read_or_no_tree bytes y.spec a y.reads x)
-  one_fault earlier AMachine bytes a b (inr (inr (inr x))) (inl y) = absurd (read_or_no_spec bytes y.spec a y.reads x)
-  one_fault earlier AMachine bytes a b (inr x) (inr y) = unbuilt_once bytes a b x y
-  one_fault earlier AnImage bytes a b x y = x.said_is ∙ sym y.said_is
+  one_fault earlier AnImage bytes a b x y =
+      let e = same_machine (machine_of earlier) y.machine x.machine y.machine_is x.machine_is in
+      let line = laws.one_line x.machine bytes x.line y.line x.first (subst (λ m. IsFirstRefused m bytes y.line) e y.first) in
+      x.said_is ∙ ap fault.Image line ∙ sym y.said_is
 
   pub not_both : (earlier : List Thing) (kind : Kind) (bytes : List ℕ) (thing : Thing) (said : Fault) → IsReadAs earlier kind bytes thing → IsRefusedAs earlier kind bytes said → ⊥
   not_both earlier ASpec bytes thing said (s, x, r) (inl y) = read_or_no_tree bytes s said r y
@@ -218,12 +190,5 @@ module _ (laws : FileLaws) where
   not_both earlier AModed bytes thing said (s, x, r) (inl y) = ill_typed_read bytes s said r.reads r.passes y
   not_both earlier AModed bytes thing said (s, x, r) (inr (inl y)) = read_or_no_tree bytes s said r.reads y
   not_both earlier AModed bytes thing said (s, x, r) (inr (inr y)) = read_or_no_spec bytes s said r.reads y
-  not_both earlier AMachine bytes thing said (s, x, r) (inl y) = ill_typed_read bytes s said r.reads r.passes y
-  not_both earlier AMachine bytes thing said (s, x, r) (inr (inl y)) =
-      let same = laws.one_spec bytes s y.spec r.reads y.reads in
-      let built = subst (λ t. are_first_decls t.decls ≡ true) same r.built in
-      let unbuilt = y.unbuilt in absurd (cc)
-  not_both earlier AMachine bytes thing said (s, x, r) (inr (inr (inl y))) = read_or_no_tree bytes s said r.reads y
-  not_both earlier AMachine bytes thing said (s, x, r) (inr (inr (inr y))) = read_or_no_spec bytes s said r.reads y
   not_both earlier AnImage bytes thing said (m, s, f, x, r) y =
-      y.nothing s (subst (λ k. IsImageOf k bytes s) (same_machine (machine_of earlier) m y.machine f y.machine_is) r)
+      laws.no_image y.machine bytes y.line s y.first (subst (λ k. IsImageOf k bytes s) (same_machine (machine_of earlier) m y.machine f y.machine_is) r)

@@ -5,7 +5,6 @@ pub mod Doing
 pub mod Following
 pub mod Judged
 pub mod Loaded
-pub mod Machines
 pub mod Misfits
 pub mod Outside
 pub mod Owed

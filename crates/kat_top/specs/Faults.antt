@@ -63,6 +63,10 @@ type_words decl tree rule =
 abbrev pub mode_words : ℕ → List ℕ → List ℕ
 mode_words decl name = codes "mode" ++ part (decimal decl) ++ part name
 
+-- `image LINE`
+abbrev pub image_words : ℕ → List ℕ
+image_words line = codes "image" ++ part (decimal line)
+
 -- `out CYCLE`
 abbrev pub out_words : ℕ → List ℕ
 out_words cycle = codes "out" ++ part (decimal cycle)
@@ -79,7 +83,7 @@ words_of_fault (fault.Read name) = read_words name
 words_of_fault (fault.Long name taken) = long_words name taken
 words_of_fault (fault.Tree kind offset) = tree_words kind offset
 words_of_fault (fault.Form place wanted) = form_words place wanted
-words_of_fault fault.Unbuilt = codes "unbuilt"
+words_of_fault (fault.Image line) = image_words line
 words_of_fault (fault.IllTyped decl tree rule) = type_words decl tree rule
 words_of_fault (fault.IllModed decl name) = mode_words decl name
 words_of_fault (fault.Out cycle) = out_words cycle

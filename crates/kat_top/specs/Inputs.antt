@@ -1,5 +1,5 @@
 -- The inputs of a job: what their bytes are read as, or with which fault they are refused.
-use Rattle.std.specs.Prelude.{◌≡◌, ◌⊎◌, ℕ, true, false, List, [], ◌∷◌, Option, Some, None}
+use Rattle.std.specs.Prelude.{◌≡◌, ◌⊎◌, ℕ, List, [], ◌∷◌, Option, Some, None}
 use Rattle.kat_tree.specs.declared.error.TreeError.{TreeError}
 use Rattle.kat_tree.specs.declared.error.TreeError.TheVariants as error
 use Rattle.kat_tree.specs.declared.tree.Tree.{Tree}
@@ -9,11 +9,10 @@ use Rattle.kat_ast.specs.Spec.{Spec}
 use Rattle.kat_shapes.specs.declared.wanted.Wanted.{Wanted}
 use Rattle.kat_ast.specs.Specifications.{Reads}
 use Rattle.kat_syntax.specs.Machine.{MachineState}
-use Rattle.kat_syntax.specs.FirstForm.{are_first_decls}
 use Rattle.kat_syntax.specs.FirstTypeFault.{TypeFault, IsTyped, first_type_fault}
 use Rattle.kat_syntax.specs.Modes.{ModeFault, IsModed, first_mode_fault}
 use Rattle.kat_forms.specs.Reading.{IsFirstMisfit}
-use Rattle.kat_image.specs.Image.{IsImageOf}
+use Rattle.kat_image.specs.Image.{IsImageOf, IsFirstRefused}
 use Rattle.kat_top.specs.declared.fault.Fault.{Fault}
 use Rattle.kat_top.specs.declared.fault.Fault.TheVariants as fault
 use Rattle.kat_top.specs.declared.fault.TreeKind.{TreeKind}
@@ -23,12 +22,11 @@ use Rattle.kat_top.specs.declared.fault.TreeKind.TheVariants.{NotText, Unclosed,
 abbrev pub Name : Type 0
 Name = List ℕ
 
--- what a file is to be: a specification, one that is typed and moded, a machine that can be run, or
--- an image of the machine before it
+-- what a file is to be: a specification, one that is typed and moded, which is a machine, or an
+-- image of the machine before it
 pub data Kind : Type 0 where
   ASpec : Kind
   AModed : Kind
-  AMachine : Kind
   AnImage : Kind
 
 -- a file that a job asks for
@@ -40,13 +38,12 @@ pub record Input : Type 0 where
 pub data Thing : Type 0 where
   TheSpec : (spec : Spec) → Thing
   TheModed : (spec : Spec) → Thing
-  TheMachine : (machine : Spec) → Thing
   TheState : (state : MachineState) → Thing
 
 -- the machine among what was read before
 abbrev pub machine_of : List Thing → Option Spec
 machine_of [] = None
-machine_of (TheMachine machine ∷ things) = Some machine
+machine_of (TheModed machine ∷ things) = Some machine
 machine_of (thing ∷ things) = machine_of things
 
 -- a specification is typed and moded
@@ -59,19 +56,11 @@ pub record IsModedText (bytes : List ℕ) (spec : Spec) : Type 0 where
   pub reads : Reads bytes spec
   pub passes : IsTypedAndModed spec
 
--- bytes stand for a machine: for a specification, typed and moded, of forms that can be run
-pub record IsMachine (bytes : List ℕ) (machine : Spec) : Type 0 where
-  pub reads : Reads bytes machine
-  pub passes : IsTypedAndModed machine
-  pub built : are_first_decls machine.decls ≡ true
-
 -- what bytes are read as, behind what was read before them: a line for each kind
 abbrev pub IsReadAs : List Thing → Kind → List ℕ → Thing → Type 0
 IsReadAs earlier ASpec bytes thing = (spec : Spec) × (thing ≡ TheSpec spec) × Reads bytes spec
 IsReadAs earlier AModed bytes thing =
     (spec : Spec) × (thing ≡ TheModed spec) × IsModedText bytes spec
-IsReadAs earlier AMachine bytes thing =
-    (machine : Spec) × (thing ≡ TheMachine machine) × IsMachine bytes machine
 IsReadAs earlier AnImage bytes thing =
     (machine : Spec) × (state : MachineState) × (machine_of earlier ≡ Some machine)
     × (thing ≡ TheState state) × IsImageOf machine bytes state
@@ -119,34 +108,24 @@ pub record IsIllTyped (bytes : List ℕ) (said : Fault) : Type 0 where
   pub reads : Reads bytes spec
   pub first : IsNotTyped spec said ⊎ IsNotModed spec said
 
--- the bytes stand for a typed and moded specification with forms that can not be run yet
-pub record IsNotBuilt (bytes : List ℕ) (said : Fault) : Type 0 where
-  pub spec : Spec
-  pub said_is : said ≡ fault.Unbuilt
-  pub reads : Reads bytes spec
-  pub passes : IsTypedAndModed spec
-  pub unbuilt : are_first_decls spec.decls ≡ false
-
--- the bytes are no image of the machine before them
+-- the bytes are no image of the machine before them, and the fault is their first line that is not
+-- of the format
 pub record IsNoImage (earlier : List Thing) (bytes : List ℕ) (said : Fault) : Type 0 where
   pub machine : Spec
-  pub said_is : said ≡ fault.Unbuilt
+  pub line : ℕ
+  pub said_is : said ≡ fault.Image line
   pub machine_is : machine_of earlier ≡ Some machine
-  pub nothing : (state : MachineState) → IsImageOf machine bytes state → ⊥
+  pub first : IsFirstRefused machine bytes line
 
 -- the fault with which bytes are refused, behind what was read before them: a line for each kind
 abbrev pub IsRefusedAs : List Thing → Kind → List ℕ → Fault → Type 0
 IsRefusedAs earlier ASpec bytes said = IsNoTree bytes said ⊎ IsNoSpec bytes said
 IsRefusedAs earlier AModed bytes said =
     IsIllTyped bytes said ⊎ (IsNoTree bytes said ⊎ IsNoSpec bytes said)
-IsRefusedAs earlier AMachine bytes said =
-    IsIllTyped bytes said
-    ⊎ (IsNotBuilt bytes said ⊎ (IsNoTree bytes said ⊎ IsNoSpec bytes said))
 IsRefusedAs earlier AnImage bytes said = IsNoImage earlier bytes said
 
 -- the bytes stand for a specification that has to be typed and moded, as a file of this kind, and
 -- is not
 abbrev pub IsIllTypedAs : Kind → List ℕ → Type 0
 IsIllTypedAs AModed bytes = (spec : Spec) × Reads bytes spec × (IsTypedAndModed spec → ⊥)
-IsIllTypedAs AMachine bytes = (spec : Spec) × Reads bytes spec × (IsTypedAndModed spec → ⊥)
 IsIllTypedAs _ bytes = ⊥

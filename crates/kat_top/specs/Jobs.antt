@@ -17,7 +17,7 @@ use Rattle.kat_top.specs.declared.status.Status.{Status}
 use Rattle.kat_top.specs.declared.status.Status.TheVariants as status
 use Rattle.kat_top.specs.Answers.{Answer, answer_of_fault}
 use Rattle.kat_top.specs.Faults.{part}
-use Rattle.kat_top.specs.Inputs.{Name, Kind, ASpec, AModed, AMachine, AnImage, Input, Thing, TheSpec, TheModed, TheMachine, TheState}
+use Rattle.kat_top.specs.Inputs.{Name, Kind, ASpec, AModed, AnImage, Input, Thing, TheSpec, TheModed, TheState}
 use Rattle.kat_top.specs.Judging.{names_of}
 
 -- an input of this kind, by the name of its file
@@ -63,7 +63,7 @@ abbrev pub inputs_of : Option Job → List Input
 inputs_of (Some (Check spec)) = input AModed spec ∷ []
 inputs_of (Some (Print spec)) = input ASpec spec ∷ []
 inputs_of (Some (Run spec image cycles calls devices)) =
-    input AMachine spec ∷ input AnImage image ∷ []
+    input AModed spec ∷ input AnImage image ∷ []
 inputs_of _ = []
 
 -- what a job answers, whose inputs were taken as these. It is a relation, and a job may end in many
@@ -75,7 +75,7 @@ Does (Some (Check name)) taken answer =
 Does (Some (Print name)) taken answer =
     (spec : Spec) × (taken ≡ TheSpec spec ∷ []) × (answer ≡ print_answer spec)
 Does (Some (Run name image cycles calls [])) taken answer =
-    (machine : Spec) × (start : MachineState) × (taken ≡ TheMachine machine ∷ TheState start ∷ [])
+    (machine : Spec) × (start : MachineState) × (taken ≡ TheModed machine ∷ TheState start ∷ [])
     × (answer ≡ answer_of_run machine start cycles calls)
 Does _ taken answer = ⊥
 

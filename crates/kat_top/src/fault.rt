@@ -2,7 +2,7 @@
 
 ghost use Rattle.std.specs.Prelude.{◌≡◌, ◌++◌, IfOk, OnOk};
 ghost use Rattle.kat_top.specs.Faults.{fault_text_of, words_of_fault, word_of_kind, word_of_wanted};
-ghost use Rattle.kat_top.specs.Faults.{read_words, long_words, tree_words, form_words, type_words, mode_words, out_words, failed_words};
+ghost use Rattle.kat_top.specs.Faults.{read_words, long_words, tree_words, form_words, type_words, mode_words, image_words, out_words, failed_words};
 
 use kat_forms::Wanted;
 use kat_syntax::{Place, TypeRule};
@@ -49,8 +49,9 @@ pub enum Fault {
         place: u64,
         wanted: Wanted,
     },
-    /// A text stands for nothing that can be run yet.
-    Unbuilt,
+    /// A text is no image of its machine: this line, counted from 1, is the first that is not of
+    /// the format.
+    Image(u64),
     /// A specification is not typed: its first fault stands at this tree of this declaration, and
     /// is that of this condition.
     IllTyped {
@@ -93,7 +94,7 @@ fn push_words(line: &mut TextBuilder, fault: &Fault) -> Result<(), AllocError>
         Fault::Long { name, taken } => push_long(line, name.as_str(), *taken),
         Fault::Tree { kind, offset } => push_tree(line, *kind, *offset),
         Fault::Form { place, wanted } => push_form(line, *place, *wanted),
-        Fault::Unbuilt => line.push_text("unbuilt"),
+        Fault::Image(number) => push_image(line, *number),
         Fault::IllTyped { decl, tree, rule } => push_type(line, *decl, *tree, *rule),
         Fault::IllModed { decl, name } => push_mode(line, *decl, name.as_str()),
         Fault::Out(cycle) => push_out(line, *cycle),
@@ -153,6 +154,14 @@ fn push_mode(line: &mut TextBuilder, decl: u32, name: &str) -> Result<(), AllocE
     line.push_text("mode")?;
     line.push_decimal_part(u64::from(decl))?;
     line.push_part(name)
+}
+
+/// `image LINE`
+fn push_image(line: &mut TextBuilder, number: u64) -> Result<(), AllocError>
+    ensures { OnOk result (line.new ≡ line.old ++ image_words number) }
+{
+    line.push_text("image")?;
+    line.push_decimal_part(number)
 }
 
 /// `out CYCLE`

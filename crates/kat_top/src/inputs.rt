@@ -3,7 +3,7 @@
 
 ghost use Rattle.std.specs.Prelude.{◌≡◌, ◌≤◌, length, List, Some};
 ghost use Rattle.kat_top.specs.declared.fault.Fault.TheVariants as fault;
-ghost use Rattle.kat_top.specs.Inputs.{Thing, ASpec, AModed, AMachine, AnImage, TheSpec, TheModed, TheMachine, TheState, machine_of};
+ghost use Rattle.kat_top.specs.Inputs.{Thing, ASpec, AModed, AnImage, TheSpec, TheModed, TheState, machine_of};
 ghost use Rattle.kat_top.specs.Limits.{most_bytes};
 ghost use Rattle.kat_top.specs.Jobs.{input};
 ghost use Rattle.kat_top.specs.Loading.{IsFaultOrMemory, ComesOf, IsModedOr, Loads, LoadsBytes, error_of_form, error_of_tree, error_of_type, items_of, as_thing};
@@ -14,7 +14,7 @@ use kat_image::{ImageError, read_image};
 use kat_io::{Files, ReadError};
 use kat_mode::{ModeError, check_modes};
 use kat_state::State;
-use kat_syntax::{Checked, Moded, Runnable, Spec, are_first_decls};
+use kat_syntax::{Checked, Moded, Spec};
 use kat_text::Text;
 use kat_tree::{TreeError, places, read_tree, spelled_is_writable, trees_fit_their_text};
 use kat_typing::{TypeError, check};
@@ -44,7 +44,7 @@ pub fn load_spec<F: Files>(alloc: Global, files: &mut F, name: &str) -> Result<S
     }
 }
 
-/// The typed and moded specification that a file stands for.
+/// The typed and moded specification, or machine, that a file stands for.
 pub fn load_moded<F: Files>(alloc: Global, files: &mut F, name: &str) -> Result<Moded, InputError>
     ensures { (earlier : List Thing) →
         Loads earlier (input AModed name.now) (as_thing TheModed result)
@@ -56,28 +56,12 @@ pub fn load_moded<F: Files>(alloc: Global, files: &mut F, name: &str) -> Result<
     }
 }
 
-/// The machine that a file stands for.
-pub fn load_machine<F: Files>(
-    alloc: Global,
-    files: &mut F,
-    name: &str,
-) -> Result<Runnable, InputError>
-    ensures { (earlier : List Thing) →
-        Loads earlier (input AMachine name.now) (as_thing TheMachine result)
-        (F.seen files.old) (F.seen files.new) }
-{
-    match load(alloc, files, name) {
-        Ok(bytes) => machine_of(alloc, bytes.as_slice()),
-        Err(error) => Err(error),
-    }
-}
-
 /// The state that a file is an image of.
 pub fn load_image<F: Files>(
     alloc: Global,
     files: &mut F,
     name: &str,
-    machine: &Runnable,
+    machine: &Moded,
 ) -> Result<State, InputError>
     ensures { (earlier : List Thing) → machine_of earlier ≡ Some machine.now →
         Loads earlier (input AnImage name.now) (as_thing TheState result)
@@ -169,34 +153,14 @@ fn moded_of(alloc: Global, checked: Checked) -> Result<Moded, InputError>
     }
 }
 
-/// What a text is read as that is to be a machine.
-fn machine_of(alloc: Global, text: &[u8]) -> Result<Runnable, InputError>
-    requires { length text.now ≤ most_bytes }
-    ensures { (earlier : List Thing) →
-        ComesOf earlier AMachine text.now (as_thing TheMachine result) }
-{
-    match moded_of_text(alloc, text) {
-        Ok(moded) => {
-            if !are_first_decls(moded.checked().spec().decls()) {
-                return Err(InputError::Fault(Fault::Unbuilt));
-            }
-            match Runnable::new(alloc, moded) {
-                Ok(machine) => Ok(machine),
-                Err(_) => Err(InputError::Memory),
-            }
-        }
-        Err(error) => Err(error),
-    }
-}
-
 /// What a text is read as that is to be an image of a machine.
-fn start_of(alloc: Global, text: &[u8], machine: &Runnable) -> Result<State, InputError>
+fn start_of(alloc: Global, text: &[u8], machine: &Moded) -> Result<State, InputError>
     ensures { (earlier : List Thing) → machine_of earlier ≡ Some machine.now →
         ComesOf earlier AnImage text.now (as_thing TheState result) }
 {
-    match read_image(alloc, text, machine) {
+    match read_image(alloc, text, machine.checked()) {
         Ok(state) => Ok(state),
-        Err(ImageError::Line(_)) => Err(InputError::Fault(Fault::Unbuilt)),
+        Err(ImageError::Line(number)) => Err(InputError::Fault(Fault::Image(number))),
         Err(ImageError::Memory) => Err(InputError::Memory),
     }
 }

@@ -7,13 +7,13 @@ ghost use Rattle.kat_top.specs.Given.{Answered};
 ghost use Rattle.kat_top.specs.Jobs.{answer_of_run};
 
 use crate::fault::Fault;
-use crate::inputs::{load_image, load_machine, load_moded, load_spec};
+use crate::inputs::{load_image, load_moded, load_spec};
 use crate::say::{refuse, say_canonical, say_fault, say_typed};
 use crate::status::Status;
 use kat_io::{Files, Sink};
 use kat_runner::{RunEnd, run};
 use kat_state::State;
-use kat_syntax::Runnable;
+use kat_syntax::Moded;
 use kat_text::Text;
 use std::alloc::Global;
 
@@ -63,7 +63,7 @@ pub fn run_files<F: Files, K: Sink>(
     ensures { Answered (Some (job.Run spec.now image.now cycles calls []))
         (F.seen files.old) (F.seen files.new) result (K.seen out.old) (K.seen out.new) }
 {
-    match load_machine(alloc, files, spec.as_str()) {
+    match load_moded(alloc, files, spec.as_str()) {
         Ok(machine) => match load_image(alloc, files, image.as_str(), &machine) {
             Ok(start) => run_from(alloc, &machine, start, cycles, calls, out),
             Err(error) => refuse(alloc, out, error),
@@ -75,7 +75,7 @@ pub fn run_files<F: Files, K: Sink>(
 /// Runs a machine from a state.
 fn run_from<K: Sink>(
     alloc: Global,
-    machine: &Runnable,
+    machine: &Moded,
     start: State,
     cycles: u64,
     calls: u64,

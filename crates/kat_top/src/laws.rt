@@ -9,9 +9,9 @@ ghost use Rattle.kat_top.specs.Owed.{IsOwed};
 ghost use Rattle.kat_top.specs.Told.{TextTellsToldRun, BeginningTellsToldRun};
 
 use kat_forms::one_description;
-use kat_image::one_state;
+use kat_image::{one_refusal, one_state};
 use kat_laws::{images_are_states, text_tells_its_run};
-use kat_syntax::{first_faults_are_least, one_reading, typed_first_forms_can_be_run};
+use kat_syntax::{first_faults_are_least, one_reading};
 use kat_tree::one_outcome;
 
 /// What the lower crates say of the bytes of a file.
@@ -23,6 +23,7 @@ pub(crate) fn file_laws()
     first_faults_are_least();
     one_description();
     one_state();
+    one_refusal();
 }
 
 /// A job whose files tell their bytes has at most one answer: one status and one text.
@@ -33,16 +34,16 @@ pub fn one_answer()
     file_laws();
 }
 
-/// What `run` prints tells the run: two runs of one machine that print the same text have the same
-/// boundary states and the same end, whatever the images, cycles and calls. And where one text
-/// begins with the texts of two such runs, they are the same, so that an output that was cut off is
-/// the output of no run of that machine. The machine and the images are what bytes stand for;
-/// nothing is supposed of the states.
+/// What `run` prints tells the run, of every machine whose registers are unit, bool or bits and
+/// that has no memory: two runs of one machine that print the same text have the same boundary
+/// states and the same end, whatever the images, cycles and calls. And where one text begins with
+/// the texts of two such runs, they are the same, so that an output that was cut off is the output
+/// of no run of that machine. The machine and the images are what bytes stand for; nothing is
+/// supposed of the states.
 pub fn text_tells_told_run()
     ensures whole { TextTellsToldRun }
     ensures beginning { BeginningTellsToldRun }
 {
-    typed_first_forms_can_be_run();
     text_tells_its_run();
     images_are_states();
 }

@@ -20,8 +20,7 @@ pub enum Status {
     WriteFault,
     /// A file has more bytes than are read.
     TooLong,
-    /// A text stands for no specification, or for none that can be run yet, or for no image of its
-    /// machine.
+    /// A text stands for no specification, or for no image of its machine.
     Form,
     /// A specification is not typed, or not moded.
     IllTyped,
@@ -55,7 +54,7 @@ impl Status {
             Fault::Usage => Status::Usage,
             Fault::Read { .. } => Status::ReadFault,
             Fault::Long { .. } => Status::TooLong,
-            Fault::Tree { .. } | Fault::Form { .. } | Fault::Unbuilt => Status::Form,
+            Fault::Tree { .. } | Fault::Form { .. } | Fault::Image(_) => Status::Form,
             Fault::IllTyped { .. } | Fault::IllModed { .. } => Status::IllTyped,
             Fault::Out(_) => Status::Out,
             Fault::Failed { .. } => Status::Failed,

@@ -18,6 +18,11 @@ abbrev pub is_any_contract : DeclForm → Bool
 is_any_contract (d.Contract f names pre x post) = true
 is_any_contract _ = false
 
+-- whether a declaration is a predicate
+abbrev pub is_any_predicate : DeclForm → Bool
+is_any_predicate (d.Predicate x inputs outputs definition) = true
+is_any_predicate _ = false
+
 -- whether a declaration is a lemma
 abbrev pub is_lemma : DeclForm → Bool
 is_lemma (d.Lemma x params names pre post steps) = true

@@ -19,7 +19,7 @@ const MOST_CELLS: u64 = 1_048_576;
 /// A memory: the first, with widths, and bounds that its indices reach.
 #[tactic(auto, using(crate::proofs::Noting::least_both))]
 pub fn judge_memory_decl(
-    around: &Around<'_>,
+    around: &Around<'_, '_>,
     index_width: u64,
     cell_width: u64,
     lo: u64,
@@ -43,7 +43,7 @@ fn has_bounds(index_width: u64, lo: u64, hi: u64) -> bool
 }
 
 /// `(cells kind lo hi)`
-pub fn judge_cells(around: &Around<'_>, kind: CellsKind, lo: u64, hi: u64, faults: &mut Faults)
+pub fn judge_cells(around: &Around<'_, '_>, kind: CellsKind, lo: u64, hi: u64, faults: &mut Faults)
     ensures { faults.new ≡ least_with faults.old
         (inner_faults around.now (decl.Cells kind lo hi)) }
 {
@@ -52,7 +52,7 @@ pub fn judge_cells(around: &Around<'_>, kind: CellsKind, lo: u64, hi: u64, fault
 
 /// `(code lo n ..)`
 #[tactic(auto, using(crate::proofs::Noting::least_both))]
-pub fn judge_code(around: &Around<'_>, lo: u64, values: &Items<u64>, faults: &mut Faults)
+pub fn judge_code(around: &Around<'_, '_>, lo: u64, values: &Items<u64>, faults: &mut Faults)
     ensures { faults.new ≡ least_with faults.old
         (inner_faults around.now (decl.Code lo values.now)) }
 {
@@ -63,7 +63,7 @@ pub fn judge_code(around: &Around<'_>, lo: u64, values: &Items<u64>, faults: &mu
 
 /// A range of cells: it needs a memory, is inside, and no cell is taken.
 #[tactic(auto, using(crate::proofs::Noting::least_both))]
-fn judge_range(around: &Around<'_>, range: &Range, faults: &mut Faults)
+fn judge_range(around: &Around<'_, '_>, range: &Range, faults: &mut Faults)
     ensures { faults.new ≡ least_with faults.old (range_faults around.now range.now) }
 {
     judge_memory(around, 0, faults);
@@ -73,7 +73,7 @@ fn judge_range(around: &Around<'_>, range: &Range, faults: &mut Faults)
 }
 
 /// Whether each value is one of the cells of the memory before, where there is one.
-fn are_cell_values(around: &Around<'_>, values: &[u64]) -> bool
+fn are_cell_values(around: &Around<'_, '_>, values: &[u64]) -> bool
     ensures { result ≡ are_cell_values around.now values.now }
 {
     match around.memory_before() {

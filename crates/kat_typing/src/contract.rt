@@ -20,10 +20,10 @@ use std::alloc::{AllocError, Global};
 
 /// A contract: its function, its names, and both assertions, with the result's name in the second
 /// alone.
-pub fn judge_contract<'a>(
+pub fn judge_contract<'d>(
     alloc: Global,
-    around: &Around<'a>,
-    decl: &'a DeclForm,
+    around: &Around<'_, 'd>,
+    decl: &'d DeclForm,
     faults: &mut Faults,
 ) -> Result<(), AllocError>
     requires small { trees_of_decl decl.now < 2 ^ 32 }
@@ -56,7 +56,10 @@ pub fn judge_contract<'a>(
 }
 
 /// The parameters of a function that is known.
-fn params_seen<'a>(alloc: Global, seen: Option<&FunctionSeen<'a>>) -> Result<Base<'a>, AllocError>
+fn params_seen<'t, 'd>(
+    alloc: Global,
+    seen: Option<&FunctionSeen<'t, 'd>>,
+) -> Result<Base<'t, 'd>, AllocError>
     ensures { IfOk result (λ base. base ≡ params_seen (option_copied seen.entry)) }
 {
     match seen {
@@ -66,14 +69,14 @@ fn params_seen<'a>(alloc: Global, seen: Option<&FunctionSeen<'a>>) -> Result<Bas
 }
 
 /// The type of a function that is known.
-fn result_seen(seen: Option<&FunctionSeen<'_>>) -> Option<Ty>
+fn result_seen(seen: Option<&FunctionSeen<'_, '_>>) -> Option<Ty>
     ensures { result ≡ result_seen (option_copied seen.entry) }
 {
     seen?.ty()
 }
 
 /// Notes the fault of a contract whose function is known and has one already.
-fn judge_second(around: &Around<'_>, is_known: bool, function: &Text, faults: &mut Faults)
+fn judge_second(around: &Around<'_, '_>, is_known: bool, function: &Text, faults: &mut Faults)
     ensures { faults.new ≡ least_with faults.old (unless
         (not (is_known && is_second (is_contract function.now) around.now)) 0 ContractTwice) }
 {

@@ -1,15 +1,15 @@
 //! Typing of declarations, among all of them.
 
-ghost use Rattle.std.specs.Prelude.{◌≡◌, ◌+◌, ◌<◌, ◌^◌, OnOk};
+ghost use Rattle.std.specs.Prelude.{◌≡◌, ◌+◌, ◌<◌, ◌^◌, true, slice_get, Some, OnOk};
 ghost use Rattle.kat_ast.specs.Types.{trees_of_type, trees_of_params};
 ghost use Rattle.kat_ast.specs.Expressions.{trees_of_expr};
 ghost use Rattle.kat_ast.specs.Statements.{trees_of_stm};
-ghost use Rattle.kat_ast.specs.Assertions.{trees_of_assertion};
 ghost use Rattle.kat_ast.specs.Declarations.{trees_of_decl};
 ghost use Rattle.kat_ast.specs.declared.decl.DeclForm.TheVariants as decl;
 ghost use Rattle.kat_syntax.specs.Tables.{Name};
 ghost use Rattle.kat_syntax.specs.TypeRules.{least_with};
-ghost use Rattle.kat_syntax.specs.TypingDeclarations.{decl_faults, inner_faults, may_be_of, region_faults, predicate_faults, function_faults};
+ghost use Rattle.kat_syntax.specs.TypingDeclarations.{decl_faults, inner_faults, may_be_of, region_faults, function_faults};
+ghost use Rattle.kat_typing.specs.Kinds.{is_any_predicate};
 ghost use Rattle.kat_typing.specs.Totals.{IsTotals};
 
 use crate::cells::{judge_cells, judge_code, judge_memory_decl};
@@ -22,22 +22,23 @@ use crate::phases::{judge_block, judge_dispatch};
 use kat_ast::{count_params, count_type};
 use kat_expr_types::{Base, Faults, Scope, Setting, judge_hiding, judge_memory, judge_type};
 use kat_stm_types::{judge_assertion, judge_stm, judge_truth};
-use kat_syntax::{Assertion, DeclForm, Expr, Param, RegisterKind, Stm, TypeName, TypeRule};
+use kat_syntax::{DeclForm, Expr, Param, RegisterKind, Stm, TypeName, TypeRule};
 use kat_tables::Around;
 use kat_text::Text;
 use kat_value::{Ty, agree};
 use std::alloc::{AllocError, Global};
 
 /// Notes all faults of a declaration. The totals are those of the declarations before.
-pub fn judge_decl<'a>(
+pub fn judge_decl<'d>(
     alloc: Global,
-    around: &Around<'a>,
+    around: &Around<'_, 'd>,
     totals: &Totals,
-    decl: &'a DeclForm,
+    decl: &'d DeclForm,
     faults: &mut Faults,
 ) -> Result<(), AllocError>
     requires totals { IsTotals around.now totals.now }
     requires small { trees_of_decl decl.now < 2 ^ 32 }
+    requires here { slice_get around.now.decls around.now.number ≡ Some decl.now }
     ensures { OnOk result (faults.new ≡ least_with faults.old (decl_faults around.now decl.now)) }
 {
     judge_names(around, decl, faults);
@@ -46,10 +47,10 @@ pub fn judge_decl<'a>(
 }
 
 /// Notes the faults of a declaration beside those of its own names and of the limits.
-fn judge_inner<'a>(
+fn judge_inner<'d>(
     alloc: Global,
-    around: &Around<'a>,
-    decl: &'a DeclForm,
+    around: &Around<'_, 'd>,
+    decl: &'d DeclForm,
     faults: &mut Faults,
 ) -> Result<(), AllocError>
     requires { trees_of_decl decl.now < 2 ^ 32 }
@@ -74,15 +75,7 @@ fn judge_inner<'a>(
             guard,
             ..
         } => return judge_region(alloc, around, params.as_slice(), index, guard, faults),
-        DeclForm::Predicate {
-            inputs,
-            outputs,
-            definition,
-            ..
-        } => {
-            let (inputs, outputs) = (inputs.as_slice(), outputs.as_slice());
-            return judge_predicate(alloc, around, inputs, outputs, definition, faults);
-        }
+        DeclForm::Predicate { .. } => return judge_predicate(alloc, around, decl, faults),
         DeclForm::Fun {
             params,
             result,
@@ -103,7 +96,7 @@ fn judge_inner<'a>(
 }
 
 /// `(register x T kind)`
-fn judge_register(around: &Around<'_>, ty: &TypeName, kind: RegisterKind, faults: &mut Faults)
+fn judge_register(around: &Around<'_, '_>, ty: &TypeName, kind: RegisterKind, faults: &mut Faults)
     requires { 3 + trees_of_type ty.now < 2 ^ 32 }
     ensures { (x : Name) → faults.new ≡ least_with faults.old
         (inner_faults around.now (decl.Register x ty.now kind)) }
@@ -121,10 +114,10 @@ fn may_be_of(kind: RegisterKind, ty: Option<Ty>) -> bool
 }
 
 /// A region: it needs a memory; its parameters, its index and its guard.
-fn judge_region<'a>(
+fn judge_region<'d>(
     alloc: Global,
-    around: &Around<'a>,
-    params: &'a [Param],
+    around: &Around<'_, 'd>,
+    params: &'d [Param],
     index: &Text,
     guard: &Expr,
     faults: &mut Faults,
@@ -144,38 +137,42 @@ fn judge_region<'a>(
 }
 
 /// A predicate: its inputs and outputs, and its definition.
-fn judge_predicate<'a>(
+fn judge_predicate<'d>(
     alloc: Global,
-    around: &Around<'a>,
-    inputs: &'a [Param],
-    outputs: &'a [Param],
-    definition: &Assertion,
+    around: &Around<'_, 'd>,
+    decl: &'d DeclForm,
     faults: &mut Faults,
 ) -> Result<(), AllocError>
-    requires { 3 + trees_of_params inputs.now + trees_of_params outputs.now
-        + trees_of_assertion definition.now < 2 ^ 32 }
-    ensures { OnOk result (faults.new ≡ least_with faults.old
-        (predicate_faults around.now inputs.now outputs.now definition.now)) }
+    requires small { trees_of_decl decl.now < 2 ^ 32 }
+    requires predicate { is_any_predicate decl.now ≡ true }
+    ensures { OnOk result (faults.new ≡ least_with faults.old (inner_faults around.now decl.now)) }
 {
+    let DeclForm::Predicate {
+        inputs,
+        outputs,
+        definition,
+        ..
+    } = decl
+    else {
+        unreachable!()
+    };
+    let inputs = inputs.as_slice();
+    let outputs = outputs.as_slice();
     let inner = Base::empty(alloc)?.judge_params(around, 4, inputs, faults)?;
     let outputs_at = 3 + count_params(inputs);
     let base = inner.judge_params(around, outputs_at + 1, outputs, faults)?;
     let scope = Scope::Base(&base);
+    let setting = Setting::plain(around, &scope);
     let definition_at = outputs_at + count_params(outputs);
-    judge_assertion(
-        &Setting::plain(around, &scope),
-        definition_at,
-        definition,
-        faults,
-    );
+    judge_assertion(&setting, definition_at, definition, faults);
     Ok(())
 }
 
 /// A function: its parameters, the type of its result, and its body, which is of it.
-fn judge_function<'a>(
+fn judge_function<'d>(
     alloc: Global,
-    around: &Around<'a>,
-    params: &'a [Param],
+    around: &Around<'_, 'd>,
+    params: &'d [Param],
     ty: &TypeName,
     body: &Stm,
     faults: &mut Faults,

@@ -48,10 +48,10 @@ pub fn first_type_fault(alloc: Global, spec: &Spec) -> Result<Option<TypeFault>,
 }
 
 /// The first fault of declarations with their tables, or of what is missing among them.
-fn first_of<'a>(
+fn first_of<'d>(
     alloc: Global,
-    tables: &'a Tables<'a>,
-    decls: &'a [Decl],
+    tables: &Tables<'d>,
+    decls: &'d [Decl],
 ) -> Result<Option<TypeFault>, AllocError>
     requires few { length decls.now < 2 ^ 32 }
     requires tables { tables.now ≡ decls.now }
@@ -70,11 +70,11 @@ fn first_of<'a>(
 
 /// The least fault of the declaration of this number, if it has one. It is counted in the totals of
 /// those before.
-fn judge_next<'a>(
+fn judge_next<'d>(
     alloc: Global,
-    tables: &'a Tables<'a>,
+    tables: &Tables<'d>,
     number: u32,
-    decl: &'a DeclForm,
+    decl: &'d DeclForm,
     totals: &mut Totals,
 ) -> Result<Option<TypeFault>, AllocError>
     requires small { trees_of_decl decl.now < 2 ^ 32 }
@@ -105,14 +105,15 @@ fn placed(number: u32, fault: Option<Fault>) -> Option<TypeFault>
 }
 
 /// The least fault of a declaration, if it has one. The totals are those of what stands before it.
-fn least_fault<'a>(
+fn least_fault<'d>(
     alloc: Global,
-    around: &Around<'a>,
+    around: &Around<'_, 'd>,
     totals: &Totals,
-    decl: &'a DeclForm,
+    decl: &'d DeclForm,
 ) -> Result<Option<Fault>, AllocError>
     requires totals { IsTotals around.now totals.now }
     requires small { trees_of_decl decl.now < 2 ^ 32 }
+    requires here { slice_get around.now.decls around.now.number ≡ Some decl.now }
     ensures { IfOk result (λ found. found ≡ least_of (decl_faults around.now decl.now)) }
 {
     let mut faults = Faults::new();

@@ -17,10 +17,10 @@ use sqlite_items::Items;
 use std::alloc::{AllocError, Global};
 
 /// A lemma: its parameters and names, both assertions, and its steps.
-pub fn judge_lemma<'a>(
+pub fn judge_lemma<'d>(
     alloc: Global,
-    around: &Around<'a>,
-    decl: &'a DeclForm,
+    around: &Around<'_, 'd>,
+    decl: &'d DeclForm,
     faults: &mut Faults,
 ) -> Result<(), AllocError>
     requires small { trees_of_decl decl.now < 2 ^ 32 }
@@ -54,9 +54,9 @@ pub fn judge_lemma<'a>(
 }
 
 /// The steps of a lemma, the first standing at this tree.
-fn judge_steps<'s>(
-    around: &'s Around<'_>,
-    scope: &'s Scope<'s, '_>,
+fn judge_steps<'s, 't, 'd>(
+    around: &'s Around<'t, 'd>,
+    scope: &'s Scope<'s, 't, 'd>,
     at: u32,
     steps: &Items<Stm>,
     faults: &mut Faults,

@@ -48,7 +48,7 @@ impl Totals {
     }
 
     /// With a declaration more, the one that is looked at.
-    pub fn push(&mut self, around: &Around<'_>, decl: &DeclForm) -> Result<(), AllocError>
+    pub fn push(&mut self, around: &Around<'_, '_>, decl: &DeclForm) -> Result<(), AllocError>
         requires totals { IsTotals around.now self.old }
         requires here { slice_get around.now.decls around.now.number ≡ Some decl.now }
         ensures { OnOk result (IsTotals (next around.now) self.new) }
@@ -61,7 +61,11 @@ impl Totals {
 }
 
 /// With the size of one type more, if the declaration that is looked at declares one.
-fn push_size(sizes: &mut Items<u64>, around: &Around<'_>, decl: &DeclForm) -> Result<(), AllocError>
+fn push_size(
+    sizes: &mut Items<u64>,
+    around: &Around<'_, '_>,
+    decl: &DeclForm,
+) -> Result<(), AllocError>
     requires sizes { sizes.old ≡ map most_u64 (sizes_before around.now) }
     requires here { slice_get around.now.decls around.now.number ≡ Some decl.now }
     ensures { OnOk result (sizes.new ≡ map most_u64 (sizes_before (next around.now))) }
@@ -74,7 +78,7 @@ fn push_size(sizes: &mut Items<u64>, around: &Around<'_>, decl: &DeclForm) -> Re
 }
 
 /// Whether no count passes its limit with this declaration.
-pub fn is_in_limits(around: &Around<'_>, totals: &Totals, decl: &DeclForm) -> bool
+pub fn is_in_limits(around: &Around<'_, '_>, totals: &Totals, decl: &DeclForm) -> bool
     requires { IsTotals around.now totals.now }
     ensures { result ≡ is_in_limits around.now decl.now }
 {
@@ -134,7 +138,7 @@ fn fields_of_decl(decl: &DeclForm) -> usize
 
 /// The size of the type that a declaration declares: 1, for a record also the sum over its fields,
 /// for a union also the largest payload.
-fn size_of_decl(around: &Around<'_>, sizes: &[u64], decl: &DeclForm) -> u64
+fn size_of_decl(around: &Around<'_, '_>, sizes: &[u64], decl: &DeclForm) -> u64
     requires { sizes.now ≡ map most_u64 (sizes_before around.now) }
     ensures { result ≡ most_u64 (size_here around.now decl.now) }
 {
@@ -146,7 +150,7 @@ fn size_of_decl(around: &Around<'_>, sizes: &[u64], decl: &DeclForm) -> u64
 }
 
 /// The greatest size of parts.
-fn greatest(around: &Around<'_>, sizes: &[u64], parts: &Items<Param>) -> u64
+fn greatest(around: &Around<'_, '_>, sizes: &[u64], parts: &Items<Param>) -> u64
     ensures { (whole : List ℕ) → sizes.now ≡ map most_u64 whole → result ≡ most_u64
         (greatest (part_sizes around.now.decls around.now.number whole parts.now)) }
 {
@@ -158,7 +162,7 @@ fn greatest(around: &Around<'_>, sizes: &[u64], parts: &Items<Param>) -> u64
 }
 
 /// The sum of the sizes of parts.
-fn sum(around: &Around<'_>, sizes: &[u64], parts: &Items<Param>) -> u64
+fn sum(around: &Around<'_, '_>, sizes: &[u64], parts: &Items<Param>) -> u64
     ensures { (whole : List ℕ) → sizes.now ≡ map most_u64 whole → result ≡ most_u64
         (sum (part_sizes around.now.decls around.now.number whole parts.now)) }
 {
@@ -170,7 +174,7 @@ fn sum(around: &Around<'_>, sizes: &[u64], parts: &Items<Param>) -> u64
 }
 
 /// The size of a part's type.
-fn size_of_part(around: &Around<'_>, sizes: &[u64], part: &Param) -> u64
+fn size_of_part(around: &Around<'_, '_>, sizes: &[u64], part: &Param) -> u64
     ensures { (whole : List ℕ) → sizes.now ≡ map most_u64 whole → result ≡ most_u64
         (size_of_name around.now.decls around.now.number whole part.now.ty) }
 {

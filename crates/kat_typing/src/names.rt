@@ -1,6 +1,6 @@
 //! The names that a declaration declares itself, and the types of its constructors and fields.
 
-ghost use Rattle.std.specs.Prelude.{◌≡◌, ◌+◌, ◌<◌, ◌^◌, [], length, OnOk};
+ghost use Rattle.std.specs.Prelude.{◌≡◌, ◌+◌, ◌<◌, ◌^◌, [], length, slice_get, Some, OnOk};
 ghost use Rattle.kat_ast.specs.Types.{trees_of_params};
 ghost use Rattle.kat_ast.specs.Declarations.{trees_of_decl};
 ghost use Rattle.kat_ast.specs.declared.decl.DeclForm.{DeclForm};
@@ -20,8 +20,20 @@ use std::alloc::{AllocError, Global};
 
 /// Notes the faults of the names that a declaration declares, of which each has to be the first of
 /// its name.
+pub fn judge_names(around: &Around<'_, '_>, decl: &DeclForm, faults: &mut Faults)
+    requires small { trees_of_decl decl.now < 2 ^ 32 }
+    requires here { slice_get around.now.decls around.now.number ≡ Some decl.now }
+    ensures { faults.new ≡ least_with faults.old
+        (taken_names around.now (own_names around.now decl.now)) }
+{
+    if !around.names_differ() {
+        judge_each_name(around, decl, faults);
+    }
+}
+
+/// Notes the faults of the names that a declaration declares, one after another.
 #[tactic(auto, using(crate::proofs::Noting::least_both))]
-pub fn judge_names(around: &Around<'_>, decl: &DeclForm, faults: &mut Faults)
+fn judge_each_name(around: &Around<'_, '_>, decl: &DeclForm, faults: &mut Faults)
     requires { trees_of_decl decl.now < 2 ^ 32 }
     ensures { faults.new ≡ least_with faults.old
         (taken_names around.now (own_names around.now decl.now)) }
@@ -47,7 +59,7 @@ pub fn judge_names(around: &Around<'_>, decl: &DeclForm, faults: &mut Faults)
 }
 
 /// Notes the fault of a name that a declaration declares at this tree, where an earlier one stands.
-fn judge_own(around: &Around<'_>, tree: u32, name: &Text, faults: &mut Faults)
+fn judge_own(around: &Around<'_, '_>, tree: u32, name: &Text, faults: &mut Faults)
     ensures { let first = first_named (declared_by around.now.decls) name.now in
         faults.new ≡ least_with faults.old
         (unless (stands_at around.now.number tree first) tree NameTaken) }
@@ -57,7 +69,7 @@ fn judge_own(around: &Around<'_>, tree: u32, name: &Text, faults: &mut Faults)
 
 /// The members of an enum.
 #[tactic(auto, using(crate::proofs::Noting::least_both))]
-fn judge_members(around: &Around<'_>, members: &Items<Text>, faults: &mut Faults)
+fn judge_members(around: &Around<'_, '_>, members: &Items<Text>, faults: &mut Faults)
     requires { 4 + length members.now < 2 ^ 32 }
     ensures { faults.new ≡ least_with faults.old
         (taken_names around.now (members_from around.now.number 0 4 members.now)) }
@@ -71,7 +83,7 @@ fn judge_members(around: &Around<'_>, members: &Items<Text>, faults: &mut Faults
 
 /// The names of constructors.
 #[tactic(auto, using(crate::proofs::Noting::least_both))]
-fn judge_ctor_names(around: &Around<'_>, ctors: &Items<Param>, faults: &mut Faults)
+fn judge_ctor_names(around: &Around<'_, '_>, ctors: &Items<Param>, faults: &mut Faults)
     requires { 3 + trees_of_params ctors.now < 2 ^ 32 }
     ensures { faults.new ≡ least_with faults.old (taken_names around.now
         (ctors_from around.now.decls around.now.number 0 4 ctors.now)) }
@@ -85,7 +97,7 @@ fn judge_ctor_names(around: &Around<'_>, ctors: &Items<Param>, faults: &mut Faul
 
 /// The types of constructors.
 #[tactic(auto, using(crate::proofs::Noting::least_both))]
-pub fn judge_ctors(around: &Around<'_>, ctors: &Items<Param>, faults: &mut Faults)
+pub fn judge_ctors(around: &Around<'_, '_>, ctors: &Items<Param>, faults: &mut Faults)
     requires { 3 + trees_of_params ctors.now < 2 ^ 32 }
     ensures { faults.new ≡ least_with faults.old (ctor_faults around.now 4 ctors.now) }
 {
@@ -100,7 +112,7 @@ pub fn judge_ctors(around: &Around<'_>, ctors: &Items<Param>, faults: &mut Fault
 #[tactic(auto, using(crate::proofs::Noting::least_both))]
 pub fn judge_fields(
     alloc: Global,
-    around: &Around<'_>,
+    around: &Around<'_, '_>,
     fields: &Items<Param>,
     faults: &mut Faults,
 ) -> Result<(), AllocError>

@@ -53,7 +53,7 @@ impl Once {
 }
 
 /// Notes the fault of a second one.
-pub fn judge_once(around: &Around<'_>, once: Once, faults: &mut Faults)
+pub fn judge_once(around: &Around<'_, '_>, once: Once, faults: &mut Faults)
     ensures { faults.new ≡ least_with faults.old
         (unless (not (is_second (is_once once) around.now)) 0 NotOnce) }
 {
@@ -62,7 +62,7 @@ pub fn judge_once(around: &Around<'_>, once: Once, faults: &mut Faults)
 
 /// `(step f)`: a function with no parameters that is unit.
 #[tactic(auto, using(crate::proofs::Noting::least_both))]
-pub fn judge_step(around: &Around<'_>, name: &Text, faults: &mut Faults)
+pub fn judge_step(around: &Around<'_, '_>, name: &Text, faults: &mut Faults)
     ensures { faults.new ≡ least_with faults.old
         (inner_faults around.now (decl.Step name.now)) }
 {
@@ -78,7 +78,7 @@ pub fn judge_step(around: &Around<'_>, name: &Text, faults: &mut Faults)
 
 /// `(boot x)`
 #[tactic(auto, using(crate::proofs::Noting::least_both))]
-pub fn judge_boot(around: &Around<'_>, name: &Text, faults: &mut Faults)
+pub fn judge_boot(around: &Around<'_, '_>, name: &Text, faults: &mut Faults)
     ensures { faults.new ≡ least_with faults.old
         (inner_faults around.now (decl.Boot name.now)) }
 {
@@ -90,7 +90,7 @@ pub fn judge_boot(around: &Around<'_>, name: &Text, faults: &mut Faults)
 #[tactic(auto, using(crate::proofs::Noting::least_both))]
 pub fn judge_untrusted(
     alloc: Global,
-    around: &Around<'_>,
+    around: &Around<'_, '_>,
     holds: &Assertion,
     faults: &mut Faults,
 ) -> Result<(), AllocError>

@@ -21,7 +21,7 @@ const MOST_WITHIN: u64 = 256;
 /// The dispatch: its cases and the phase behind them.
 pub fn judge_dispatch(
     alloc: Global,
-    around: &Around<'_>,
+    around: &Around<'_, '_>,
     cases: &Items<When>,
     otherwise: &Phase,
     faults: &mut Faults,
@@ -38,7 +38,7 @@ pub fn judge_dispatch(
 /// The cases of the dispatch, the first standing at tree 2, and the phase behind them.
 fn judge_whens(
     alloc: Global,
-    around: &Around<'_>,
+    around: &Around<'_, '_>,
     cases: &Items<When>,
     otherwise: &Phase,
     faults: &mut Faults,
@@ -61,7 +61,7 @@ fn judge_whens(
 }
 
 /// A phase at this tree, and how many trees it has.
-fn judge_phase(around: &Around<'_>, at: u32, phase: &Phase, faults: &mut Faults) -> u32
+fn judge_phase(around: &Around<'_, '_>, at: u32, phase: &Phase, faults: &mut Faults) -> u32
     requires { at + trees_of_phase phase.now < 2 ^ 32 }
     ensures trees { result ≡ trees_of_phase phase.now }
     ensures faults { faults.new ≡ least_with faults.old (phase_faults around.now at phase.now) }
@@ -78,7 +78,7 @@ fn judge_phase(around: &Around<'_>, at: u32, phase: &Phase, faults: &mut Faults)
 /// A block: what holds at its entry, its cycles, and its change.
 pub fn judge_block(
     alloc: Global,
-    around: &Around<'_>,
+    around: &Around<'_, '_>,
     block: &Block,
     faults: &mut Faults,
 ) -> Result<(), AllocError>

@@ -7,7 +7,7 @@ use Rattle.kat_value.specs.declared.types.TypeDecl.{TypeDecl}
 use Rattle.kat_value.specs.declared.value.Value.{Value, out-Value, roll-Value, roll-out-Value, map-Value, fold_out-Value, fold-roll-Value}
 use Rattle.kat_value.specs.declared.value.Value.TheVariants.{Unit as UnitValue, Bool as Truth, Bits as Number, rolls-Unit, rolls-Bool, rolls-Bits}
 use Rattle.kat_value.specs.declared.value.Value.TheOpen.{Value-F, Unit as UnitLayer, Bool as TruthLayer, Bits as NumberLayer}
-use Rattle.kat_value.specs.Operations.{is_number}
+use Rattle.kat_value.specs.Widths.{is_number}
 use Rattle.kat_value.specs.Typing.{HasType, has_type, layer_has_type}
 use Rattle.kat_value.specs.TypeLaws.{UnitIsUnit, BoolIsTruths, BitsAreNumbers}
 

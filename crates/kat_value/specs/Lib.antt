@@ -1,6 +1,9 @@
 pub mod Equality
+pub mod Making
 pub mod Numbers
 pub mod Operations
+pub mod OperationTypes
+pub mod Shown
 pub mod Signatures
 pub mod TypeLaws
 pub mod Typing

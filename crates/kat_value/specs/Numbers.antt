@@ -78,6 +78,10 @@ CanApply (Zext v) w a b = IsNumber w a × (w ≤ v) × (v ≤ widest)
 CanApply (Sext v) w a b = IsNumber w a × (w ≤ v) × (v ≤ widest)
 CanApply _ w a b = AreNumbers w a b
 
+-- the operation takes any two numbers of one width
+abbrev pub TakesTwoNumbers : Op → Type 0
+TakesTwoNumbers op = (w a b : ℕ) → AreNumbers w a b → CanApply op w a b
+
 -- the width that an operation on numbers of w bits gives; 1 for a truth, and for `Cat`, whose first
 -- width is not told, the greatest
 abbrev pub width_of_op : Op → ℕ → ℕ

@@ -4,7 +4,7 @@ use Rattle.kat_value.specs.declared.types.Ty.TheVariants as ty
 use Rattle.kat_value.specs.declared.types.TypeDecl.{TypeDecl}
 use Rattle.kat_value.specs.declared.value.Value.{Value}
 use Rattle.kat_value.specs.declared.value.Value.TheVariants as value
-use Rattle.kat_value.specs.Operations.{is_number}
+use Rattle.kat_value.specs.Widths.{is_number}
 use Rattle.kat_value.specs.Typing.{HasType}
 
 -- of type unit is unit alone

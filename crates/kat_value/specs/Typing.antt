@@ -7,7 +7,7 @@ use Rattle.kat_value.specs.declared.types.TypeDecl.{TypeDecl}
 use Rattle.kat_value.specs.declared.types.TypeDecl.TheVariants.{Enum as EnumDecl, Union as UnionDecl, Rec as RecDecl}
 use Rattle.kat_value.specs.declared.value.Value.{Value, fold-Value}
 use Rattle.kat_value.specs.declared.value.Value.TheOpen.{Value-F, Unit as UnitValue, Bool as Truth, Bits, Member, Made, Rec}
-use Rattle.kat_value.specs.Operations.{is_number}
+use Rattle.kat_value.specs.Widths.{is_number}
 
 -- how many members a declaration has, 0 where it is no enum
 abbrev pub members_in : Option TypeDecl → ℕ

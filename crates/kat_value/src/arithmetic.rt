@@ -1,7 +1,7 @@
 //! The operations on bits, on machine words.
 
 ghost use Rattle.std.specs.Prelude.{◌≡◌, ◌+◌, ◌-◌, ◌*◌, ◌/◌, ◌%◌, ◌^◌, ◌<◌, ◌≤◌, ℕ, min, nat_lt, if◌then◌else◌};
-ghost use Rattle.kat_value.specs.Numbers.{IsNumber, signed, sign_extended, number_of_op, CanApply, width_of_op};
+ghost use Rattle.kat_value.specs.Numbers.{IsNumber, AreNumbers, signed, sign_extended, truth_of_op, number_of_op, CanApply, width_of_op};
 ghost use Rattle.kat_value.specs.Widths.{IsWidth, widest};
 
 use crate::op::Op;
@@ -20,11 +20,7 @@ pub fn apply(op: Op, width: u32, a: u64, b: u64) -> u64
     ensures joined { op ≡ Op.Cat → (v : ℕ) → a < 2 ^ v → result < 2 ^ (v + width) }
 {
     match op {
-        Op::Eq => u64::from(a == b),
-        Op::Ult => u64::from(a < b),
-        Op::Ule => u64::from(a <= b),
-        Op::Slt => u64::from(signed(width, a) < signed(width, b)),
-        Op::Sle => u64::from(signed(width, a) <= signed(width, b)),
+        Op::Eq | Op::Ult | Op::Ule | Op::Slt | Op::Sle => u64::from(holds(op, width, a, b)),
         Op::Add => low_bits(width, a.wrapping_add(b)),
         Op::Sub => low_bits(width, a.wrapping_sub(b)),
         Op::Mul => low_bits(width, a.wrapping_mul(b)),
@@ -40,6 +36,21 @@ pub fn apply(op: Op, width: u32, a: u64, b: u64) -> u64
         Op::Zext { .. } => a,
         Op::Sext { width: wide } => sign_extended(width, wide, a),
         Op::Not | Op::And | Op::Or | Op::Ite | Op::Get { .. } => unreachable!(),
+    }
+}
+
+/// Whether a comparison holds of two numbers of `width` bits; not where the operation is none.
+pub fn holds(op: Op, width: u32, a: u64, b: u64) -> bool
+    requires { AreNumbers width a b }
+    ensures { result ≡ truth_of_op op width a b }
+{
+    match op {
+        Op::Eq => a == b,
+        Op::Ult => a < b,
+        Op::Ule => a <= b,
+        Op::Slt => signed(width, a) < signed(width, b),
+        Op::Sle => signed(width, a) <= signed(width, b),
+        _ => false,
     }
 }
 

@@ -3,6 +3,8 @@
 ghost use Rattle.std.specs.Prelude.{◌≡◌, ℕ, List, Some, IsTrue};
 ghost use Rattle.kat_value.specs.declared.op.Op.{Op};
 ghost use Rattle.kat_value.specs.Equality.{TestsEquality};
+ghost use Rattle.kat_value.specs.OperationTypes.{ExactOperations};
+ghost use Rattle.kat_value.specs.Shown.{ShownTypes};
 ghost use Rattle.kat_value.specs.TypeLaws.{UnitIsUnit, BoolIsTruths, BitsAreNumbers};
 ghost use Rattle.kat_value.specs.Words.{word_of_op, bare, numbers_of_op, with_numbers, arity_of, is_written, op_of_word};
 
@@ -17,6 +19,17 @@ pub fn types_of_values()
     ensures unit { UnitIsUnit }
     ensures truths { BoolIsTruths }
     ensures numbers { BitsAreNumbers }
+{}
+
+/// A value is of the type that it shows, or of none.
+pub fn values_show_types()
+    ensures { ShownTypes }
+{}
+
+/// An operation, a constructor or a record has a value exactly on values of types that it takes,
+/// and that value is of the type that it gives.
+pub fn operations_are_exact()
+    ensures { ExactOperations }
 {}
 
 /// A word tells its operation, and the operation its word.

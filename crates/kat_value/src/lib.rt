@@ -6,11 +6,14 @@
 
 mod arithmetic;
 mod copy;
+#[cfg(test)]
+mod edges;
 mod equality;
 mod laws;
 mod op;
 mod op_types;
-mod operate;
+mod operations;
+mod shown;
 mod signature;
 #[cfg(test)]
 mod tests;
@@ -24,12 +27,16 @@ mod words;
 pub use arithmetic::apply;
 pub use copy::{copy_value, copy_values};
 pub use equality::same_value;
-pub use laws::{equality_is_tested, types_of_values, words_of_operations};
+pub use laws::{
+    equality_is_tested, operations_are_exact, types_of_values, values_show_types,
+    words_of_operations,
+};
 pub use op::Op;
 pub use op_types::{
     accepts, agree, bits_of, fixed_behind, same_type, takes, type_given, type_of_op, widths_fit,
 };
-pub use operate::operate_on_two;
+pub use operations::{field_of, operate, operate_on_one, operate_on_three, operate_on_two};
+pub use shown::type_of_value;
 pub use signature::{Signature, signature_of};
 pub use types::{Field, Ty, TypeDecl, Types};
 pub use typing::fits;

@@ -1,8 +1,7 @@
 //! The widths of bits, and the numbers of a width.
 
 ghost use Rattle.std.specs.Prelude.{◌≡◌, ◌≤◌, ◌^◌, IsTrue, nat_lt};
-ghost use Rattle.kat_value.specs.Operations.{is_number};
-ghost use Rattle.kat_value.specs.Widths.{widest, is_width};
+ghost use Rattle.kat_value.specs.Widths.{is_number, widest, is_width};
 
 /// The greatest width of bits.
 pub const WIDEST: u32 = 64;

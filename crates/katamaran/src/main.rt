@@ -6,10 +6,6 @@ mod forms;
 #[cfg(test)]
 mod modes;
 #[cfg(test)]
-mod norm;
-#[cfg(test)]
-mod terms;
-#[cfg(test)]
 mod tests;
 #[cfg(test)]
 mod typing;

@@ -117,16 +117,22 @@ fn count_agrees(
     agrees(alloc, &row)
 }
 
-/// Whether a text and an image are not built.
-fn is_unbuilt(alloc: Global, spec: &str, image: &str) -> Result<bool, AllocError> {
+/// Whether one cycle of a machine from an image, with three calls, is answered so.
+fn one_cycle_agrees(
+    alloc: Global,
+    spec: &str,
+    image: &str,
+    status: Status,
+    text: &str,
+) -> Result<bool, AllocError> {
     let row = Row {
-        words: "run s i --cycles 1 --calls 1",
+        words: "run s i --cycles 1 --calls 3",
         spec: spec.as_bytes(),
         image,
         failing_read: 0,
         failing_write: 0,
-        status: Status::Form,
-        text: "unbuilt\n",
+        status,
+        text,
     };
     agrees(alloc, &row)
 }
@@ -187,19 +193,26 @@ fn runs_write_their_states(rt: HostRuntime) -> Result<(), Fail> {
     Ok(())
 }
 
+/// Machines with images, and what is answered to one cycle.
+const IMAGES: &[(&str, &str, Status, &str)] = &[
+    (
+        WITH_CALL,
+        "reg n 0x03",
+        Status::Out,
+        "at 0\nreg n 0x03\nout 1\n",
+    ),
+    (WITH_MEMORY, "", Status::Failed, "at 0\nfailed 1 1 5\n"),
+    (TO_THREE, "reg  n 0x01", Status::Form, "image 1\n"),
+    (TO_THREE, "\nreg n 256", Status::Form, "image 2\n"),
+    (TO_THREE, "reg n 1\nreg n 1", Status::Form, "image 2\n"),
+    (TO_THREE, "reg n 1\r\n", Status::Form, "image 1\n"),
+];
+
 #[test]
-fn texts_and_images_that_are_not_built(rt: HostRuntime) -> Result<(), Fail> {
-    let rows = [
-        (WITH_CALL, "reg n 0x01"),
-        (WITH_MEMORY, ""),
-        (TO_THREE, "reg  n 0x01"),
-        (TO_THREE, "reg n 256"),
-        (TO_THREE, "reg n 1\nreg n 1"),
-        (TO_THREE, "reg n 1\r\n"),
-    ];
-    for (spec, image) in rows {
-        let unbuilt = is_unbuilt(rt.alloc(), spec, image)?;
-        assert!(rt; unbuilt, "at {spec} with {image}");
+fn images_are_read(rt: HostRuntime) -> Result<(), Fail> {
+    for (spec, image, status, text) in IMAGES {
+        let agrees = one_cycle_agrees(rt.alloc(), spec, image, *status, text)?;
+        assert!(rt; agrees, "at {spec} with {image}");
     }
     Ok(())
 }

@@ -1,4 +1,4 @@
-use Rattle.std.proofs.Common.{◌<◌, ◌∷◌, List, ℕ, Bool, Bor, Option, length, ap, ◌∙◌, subst}
+use Rattle.std.proofs.Common.{◌<◌, ◌∷◌, List, ℕ, Bool, Bor, Option, length, ap, ◌∙◌, subst, arith}
 use Rattle.std.specs.Prelude.{IfSome}
 use Rattle.std.specs.Option.{option_copied}
 use Rattle.kat_image.specs.Image.{IsFirstRefused, IsImageOf}
@@ -11,7 +11,7 @@ pub loop-behind-init : goal.loop-behind-init
 loop-behind-init c =
     reads_none c.args.machine.now c.args.bytes.now c.in_ok-image.image (read_none c.args.machine.now c.in_ok-image.image c.in_ok-image.ensures.state c.in_ok-image.ensures.unset)
 
-fault : (c : goal.After-drop-image-then-not-take) → IsFirstRefused c.args.machine.now c.args.bytes.now c.loop-behind.number
+fault : (c : goal.After-drop-image-then-not-take-2) → IsFirstRefused c.args.machine.now c.args.bytes.now c.loop-behind.number
 fault c =
     let read = c.loop-behind.invariant in
     let line = c.first_line.result.0.now in
@@ -55,3 +55,9 @@ loop-behind-preserved c =
     (c.first_line.ensures.lines ∙ ap (λ (o : Option (Bor (List ℕ))). line ∷ lines_behind (option_copied o)) c.in-Some.is)
     (subst (λ (o : Option (Bor (List ℕ))). IfSome o (λ rest. length rest.now < length c.loop-behind.rest.now)) c.in-Some.is c.first_line.ensures.shorter)
     (subst (λ (b : Bool). Takes c.args.machine.now read.lines line b c.take.new.self) c.if-not-take.false (c.take.ensures read.lines read.read))
+
+-- there are as many registers as flags
+pub take-requires : goal.take-requires
+take-requires c =
+    let read = c.loop-behind.invariant.read in
+    omega (arith, read.flags, read.room)

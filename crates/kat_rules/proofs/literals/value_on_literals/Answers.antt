@@ -5,8 +5,8 @@ use Rattle.std.specs.Option.{option_map}
 use Rattle.kat_value.specs.declared.op.Op.{Op}
 use Rattle.kat_value.specs.declared.value.Value.{Value}
 use Rattle.kat_term.specs.declared.term.Term.{Term}
-use Rattle.kat_term.specs.Operations.{value_of_op}
-use Rattle.kat_term.specs.Values.{all_there}
+use Rattle.kat_value.specs.Operations.{value_of_op}
+use Rattle.kat_value.specs.Making.{all_there}
 use Rattle.kat_rules.specs.Truths.{plain_of}
 use Rattle.kat_rules.proofs.literals.value_on_literals.Goals as goal
 

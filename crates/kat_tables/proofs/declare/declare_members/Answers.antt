@@ -1,17 +1,22 @@
-use Rattle.std.proofs.Common.{◌++◌, length, map, ap, arith, refl, subst}
+use Rattle.std.proofs.Common.{[], ◌++◌, length, map, ap, arith, refl, sym, subst}
+use Rattle.std.proofs.lemmas.List.{append-nil}
 use Rattle.std.proofs.lemmas.List.{at_drop_all}
 use Rattle.kat_syntax.specs.Declares.{members_from}
 use Rattle.kat_tables.specs.Meanings.{noted, IsKinds}
 use Rattle.kat_tables.proofs.Declaring.{noted_none, noted_more, noted_all, next_member}
 use Rattle.kat_tables.proofs.declare.declare_members.Goals as goal
 
--- nothing is noted at the start
+-- nothing is noted at the start, where there is room
 pub loop-member-init : goal.loop-member-init
 loop-member-init c = record {
   counted = refl;
-  so_far = noted_none
-      (map noted (members_from c.args.decl c.args.position 4 c.as_slice-member-items.result.now))
-      c.args.kinds.now;
+  so_far =
+      let whole = map noted
+      (members_from c.args.decl c.args.position 4 c.as_slice-member-items.result.now) in
+      noted_more whole whole [] whole c.args.kinds.now c.args.kinds.now c.reserve.new.self
+      (noted_none whole c.args.kinds.now) refl
+      (λ all is. subst (λ ns. IsKinds ns c.reserve.new.self) (sym (append-nil all))
+      (c.in_ok-reserve.ensures all is));
 }
 
 -- there are fewer trees than 2^32

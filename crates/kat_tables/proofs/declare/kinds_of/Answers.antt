@@ -39,4 +39,4 @@ returns c =
     (at_drop_all (λ decls. map noted
     (declared_from c.args.decls.now c.loop-decl.decl c.loop-decl.position decls))
     c.args.decls.now c.loop-decl.decl c.loop-decl-test.false)
-    [] c.in_ok-kinds.ensures
+    [] c.new-kinds.ensures

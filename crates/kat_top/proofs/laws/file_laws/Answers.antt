@@ -9,4 +9,6 @@ returns c = record {
   one_misfit = c.one_description.ensures.misfit;
   typed_or_not = λ spec. typed_or_not spec (c.first_faults_are_least.ensures spec);
   one_state = c.one_state.ensures;
+  no_image = c.one_refusal.ensures.no_image;
+  one_line = c.one_refusal.ensures.line;
 }

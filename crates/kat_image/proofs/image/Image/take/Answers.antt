@@ -17,4 +17,4 @@ returns-in-None c = λ lines read.
 
 pub returns-in-Some : goal.returns-in-Some
 returns-in-Some c = λ lines read.
-    takes_set c.args.machine.now lines c.args.line.now c.args.self.now c.set.new.self c.in-Some.at c.in-Some.number c.set.result read c.in-Some.ensures.found c.set.ensures.set c.set.ensures.unset
+    takes_set c.args.machine.now c.register_types.result.now lines c.args.line.now c.args.self.now c.set.new.self c.in-Some.at c.in-Some.number c.set.result c.register_types.ensures read c.in-Some.ensures.found c.set.ensures.set c.set.ensures.unset

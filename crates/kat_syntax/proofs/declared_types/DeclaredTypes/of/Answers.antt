@@ -10,14 +10,20 @@ pub loop-decl-preserved : goal.loop-decl-preserved
 loop-decl-preserved c =
     elim c.match-type_declared.branch [
       | in-Some+in_ok-add-in-Some+in_ok-push-in-Some w ↦
-          rw (w.named-is, w.numbers-is, w.in_ok-add-in-Some.ensures, w.in_ok-push-in-Some.ensures.ok)
+          rw (
+            w.named-is,
+            w.numbers-is,
+            w.in_ok-add-in-Some.ensures,
+            w.in_ok-push-in-Some.ensures.ok,
+          )
           record {
             so_far = next_some c.args.decls.now c.loop-decl.decl c.len-position.result
                 c.index-decls-decl.result c.form.result.now w.in-Some.name.now w.in-Some.ty
                 c.loop-decl.named c.loop-decl.numbers c.loop-decl.invariant.so_far (omega arith)
                 c.index-decls-decl.is c.form.ensures.form c.len-position.ensures
                 (sym c.type_declared.ensures
-                ∙ ap (option_map (λ (found : Bor (List ℕ) × Ty). (found.0.now, found.1))) w.in-Some.is);
+                ∙ ap (option_map (λ (found : Bor (List ℕ) × Ty). (found.0.now, found.1)))
+                w.in-Some.is);
             few = omega (
               arith,
               c.loop-decl.invariant.few,

@@ -16,7 +16,7 @@ returns-in_err-decl c =
     c.from_residual.ensures
     ∙ means_none all function_in a_function (function_form all) (functions_by_form all)
     c.args.self.now (ap (λ a. a.decls) c.self.view_is) x
-    (sym c.in_err-decl.was ∙ c.find.ensures ∙ c.tables.invariant.kinds_are.functions x
+    (sym c.in_err-decl.was ∙ c.function.ensures ∙ c.tables.invariant.kinds_are.functions x
     ∙ ap (λ ds. first_with function_in (map noted (declared_by ds)) x) c.tables.view_is)
 
 pub returns-in_err-form : goal.returns-in_err-form
@@ -26,7 +26,7 @@ returns-in_err-form c =
     c.from_residual-in_err-form.ensures
     ∙ means_given all function_in a_function (function_form all) (functions_by_form all)
     c.args.self.now (ap (λ a. a.decls) c.self.view_is) x c.in_ok-decl.decl
-    (sym c.in_ok-decl.was ∙ c.find.ensures ∙ c.tables.invariant.kinds_are.functions x
+    (sym c.in_ok-decl.was ∙ c.function.ensures ∙ c.tables.invariant.kinds_are.functions x
     ∙ ap (λ ds. first_with function_in (map noted (declared_by ds)) x) c.tables.view_is)
     None (sym (ap option_copied c.in_err-form.was) ∙ c.form.ensures)
 
@@ -40,7 +40,7 @@ returns-in_err-params c =
     c.in_err-params.was) ∙ c.function_types.ensures)
     ∙ means_given all function_in a_function (function_form all) (functions_by_form all)
     c.args.self.now (ap (λ a. a.decls) c.self.view_is) x c.in_ok-decl.decl
-    (sym c.in_ok-decl.was ∙ c.find.ensures ∙ c.tables.invariant.kinds_are.functions x
+    (sym c.in_ok-decl.was ∙ c.function.ensures ∙ c.tables.invariant.kinds_are.functions x
     ∙ ap (λ ds. first_with function_in (map noted (declared_by ds)) x) c.tables.view_is)
     (Some c.in_ok-form.field-0.now) (sym (ap option_copied c.in_ok-form.was) ∙ c.form.ensures)
 
@@ -59,6 +59,6 @@ returns c =
     c.in_ok-params.was) ∙ c.function_types.ensures)
     ∙ means_given all function_in a_function (function_form all) (functions_by_form all)
     c.args.self.now (ap (λ a. a.decls) c.self.view_is) x c.in_ok-decl.decl
-    (sym c.in_ok-decl.was ∙ c.find.ensures ∙ c.tables.invariant.kinds_are.functions x
+    (sym c.in_ok-decl.was ∙ c.function.ensures ∙ c.tables.invariant.kinds_are.functions x
     ∙ ap (λ ds. first_with function_in (map noted (declared_by ds)) x) c.tables.view_is)
     (Some c.in_ok-form.field-0.now) (sym (ap option_copied c.in_ok-form.was) ∙ c.form.ensures)

@@ -9,7 +9,7 @@ pub returns : goal.returns
 returns c =
     let x = c.args.name.now in
     c.is_some.ensures
-    ∙ ap is_some (c.find.ensures ∙ c.tables.invariant.kinds_are.names x)
+    ∙ ap is_some (c.place.ensures ∙ c.tables.invariant.kinds_are.places x)
     ∙ is_there (declared_by c.tables.inside.decls.now) x
     ∙ ap (λ ds. list_any (λ (one : Declared). bytes_eq one.name x) (declared_by ds))
     (c.tables.view_is ∙ ap (λ a. a.decls) c.self.view_is)

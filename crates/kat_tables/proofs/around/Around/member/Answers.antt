@@ -7,7 +7,7 @@ use Rattle.kat_tables.proofs.around.Around.member.Goals as goal
 pub returns : goal.returns
 returns c =
     let x = c.args.name.now in
-    c.find.ensures ∙ c.tables.invariant.kinds_are.members x
+    c.member.ensures ∙ c.tables.invariant.kinds_are.members x
     ∙ members_same (declared_by c.tables.inside.decls.now) x
     ∙ ap (λ ds. look_up a_member (declared_by ds) x)
     (c.tables.view_is ∙ ap (λ a. a.decls) c.self.view_is)

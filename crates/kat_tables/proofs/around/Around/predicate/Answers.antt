@@ -15,7 +15,7 @@ returns-in_err-decl c =
     c.from_residual.ensures
     ∙ means_none all predicate_in a_predicate (predicate_form all) (predicates_by_form all)
     c.args.self.now (ap (λ a. a.decls) c.self.view_is) x
-    (sym c.in_err-decl.was ∙ c.find.ensures ∙ c.tables.invariant.kinds_are.predicates x
+    (sym c.in_err-decl.was ∙ c.predicate.ensures ∙ c.tables.invariant.kinds_are.predicates x
     ∙ ap (λ ds. first_with predicate_in (map noted (declared_by ds)) x) c.tables.view_is)
 
 pub returns-in_err-form : goal.returns-in_err-form
@@ -25,7 +25,7 @@ returns-in_err-form c =
     c.from_residual-in_err-form.ensures
     ∙ means_given all predicate_in a_predicate (predicate_form all) (predicates_by_form all)
     c.args.self.now (ap (λ a. a.decls) c.self.view_is) x c.in_ok-decl.decl
-    (sym c.in_ok-decl.was ∙ c.find.ensures ∙ c.tables.invariant.kinds_are.predicates x
+    (sym c.in_ok-decl.was ∙ c.predicate.ensures ∙ c.tables.invariant.kinds_are.predicates x
     ∙ ap (λ ds. first_with predicate_in (map noted (declared_by ds)) x) c.tables.view_is)
     None (sym (ap option_copied c.in_err-form.was) ∙ c.form.ensures)
 
@@ -39,7 +39,7 @@ returns-in_err-inputs c =
     c.in_err-inputs.was) ∙ c.predicate_params.ensures)
     ∙ means_given all predicate_in a_predicate (predicate_form all) (predicates_by_form all)
     c.args.self.now (ap (λ a. a.decls) c.self.view_is) x c.in_ok-decl.decl
-    (sym c.in_ok-decl.was ∙ c.find.ensures ∙ c.tables.invariant.kinds_are.predicates x
+    (sym c.in_ok-decl.was ∙ c.predicate.ensures ∙ c.tables.invariant.kinds_are.predicates x
     ∙ ap (λ ds. first_with predicate_in (map noted (declared_by ds)) x) c.tables.view_is)
     (Some c.in_ok-form.field-0.now) (sym (ap option_copied c.in_ok-form.was) ∙ c.form.ensures)
 
@@ -53,6 +53,6 @@ returns c =
     c.in_ok-inputs.was) ∙ c.predicate_params.ensures)
     ∙ means_given all predicate_in a_predicate (predicate_form all) (predicates_by_form all)
     c.args.self.now (ap (λ a. a.decls) c.self.view_is) x c.in_ok-decl.decl
-    (sym c.in_ok-decl.was ∙ c.find.ensures ∙ c.tables.invariant.kinds_are.predicates x
+    (sym c.in_ok-decl.was ∙ c.predicate.ensures ∙ c.tables.invariant.kinds_are.predicates x
     ∙ ap (λ ds. first_with predicate_in (map noted (declared_by ds)) x) c.tables.view_is)
     (Some c.in_ok-form.field-0.now) (sym (ap option_copied c.in_ok-form.was) ∙ c.form.ensures)

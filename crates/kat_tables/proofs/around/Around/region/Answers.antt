@@ -14,7 +14,7 @@ returns-in_err-decl c =
     c.from_residual.ensures
     ∙ means_none all region_in a_region (region_form all) (regions_by_form all) c.args.self.now
     (ap (λ a. a.decls) c.self.view_is) x
-    (sym c.in_err-decl.was ∙ c.find.ensures ∙ c.tables.invariant.kinds_are.regions x
+    (sym c.in_err-decl.was ∙ c.region.ensures ∙ c.tables.invariant.kinds_are.regions x
     ∙ ap (λ ds. first_with region_in (map noted (declared_by ds)) x) c.tables.view_is)
 
 pub returns-in_err-form : goal.returns-in_err-form
@@ -24,7 +24,7 @@ returns-in_err-form c =
     c.from_residual-in_err-form.ensures
     ∙ means_given all region_in a_region (region_form all) (regions_by_form all) c.args.self.now
     (ap (λ a. a.decls) c.self.view_is) x c.in_ok-decl.decl
-    (sym c.in_ok-decl.was ∙ c.find.ensures ∙ c.tables.invariant.kinds_are.regions x
+    (sym c.in_ok-decl.was ∙ c.region.ensures ∙ c.tables.invariant.kinds_are.regions x
     ∙ ap (λ ds. first_with region_in (map noted (declared_by ds)) x) c.tables.view_is)
     None (sym (ap option_copied c.in_err-form.was) ∙ c.form.ensures)
 
@@ -37,7 +37,7 @@ returns-in_err-params c =
     (sym (ap option_copied c.in_err-params.was) ∙ c.region_params.ensures)
     ∙ means_given all region_in a_region (region_form all) (regions_by_form all) c.args.self.now
     (ap (λ a. a.decls) c.self.view_is) x c.in_ok-decl.decl
-    (sym c.in_ok-decl.was ∙ c.find.ensures ∙ c.tables.invariant.kinds_are.regions x
+    (sym c.in_ok-decl.was ∙ c.region.ensures ∙ c.tables.invariant.kinds_are.regions x
     ∙ ap (λ ds. first_with region_in (map noted (declared_by ds)) x) c.tables.view_is)
     (Some c.in_ok-form.field-0.now) (sym (ap option_copied c.in_ok-form.was) ∙ c.form.ensures)
 
@@ -50,6 +50,6 @@ returns c =
     (sym (ap option_copied c.in_ok-params.was) ∙ c.region_params.ensures)
     ∙ means_given all region_in a_region (region_form all) (regions_by_form all) c.args.self.now
     (ap (λ a. a.decls) c.self.view_is) x c.in_ok-decl.decl
-    (sym c.in_ok-decl.was ∙ c.find.ensures ∙ c.tables.invariant.kinds_are.regions x
+    (sym c.in_ok-decl.was ∙ c.region.ensures ∙ c.tables.invariant.kinds_are.regions x
     ∙ ap (λ ds. first_with region_in (map noted (declared_by ds)) x) c.tables.view_is)
     (Some c.in_ok-form.field-0.now) (sym (ap option_copied c.in_ok-form.was) ∙ c.form.ensures)

@@ -7,7 +7,7 @@ use Rattle.kat_tables.proofs.around.Around.register.Goals as goal
 pub returns : goal.returns
 returns c =
     let x = c.args.name.now in
-    c.find.ensures ∙ c.tables.invariant.kinds_are.registers x
+    c.register.ensures ∙ c.tables.invariant.kinds_are.registers x
     ∙ registers_same (declared_by c.tables.inside.decls.now) x
     ∙ ap (λ ds. look_up a_register (declared_by ds) x)
     (c.tables.view_is ∙ ap (λ a. a.decls) c.self.view_is)

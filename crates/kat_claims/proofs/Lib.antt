@@ -1,0 +1,5 @@
+mod Joins
+mod Budgets
+mod Layers
+mod Holders
+mod Machines

@@ -1,0 +1,268 @@
+-- Small machines that are secure or not.
+use Rattle.std.proofs.Common.{arith, ◌≡◌, ◌∙◌, ℕ, ◌+◌, zero, suc, slice_get, Bool, true, false, List, [], ◌∷◌, ◌++◌, map, Option, Some, None, refl, sym, ap, subst, if◌then◌else◌, unwrap_or}
+use Rattle.std.specs.Prelude.{IsTrue, ◌≤◌, ◌<◌, option_and_then}
+use Rattle.std.specs.List.{AllByRecursion}
+use Rattle.std.specs.Str.{bytes_eq}
+use Rattle.kat_value.specs.declared.types.Ty.{Ty}
+use Rattle.kat_value.specs.declared.types.Ty.TheVariants as ty
+use Rattle.kat_value.specs.declared.types.TypeDecl.{TypeDecl}
+use Rattle.kat_value.specs.declared.value.Value.{Value, fold-roll-Value}
+use Rattle.kat_value.specs.declared.value.Value.TheOpen as layer
+use Rattle.kat_value.specs.declared.value.Value.TheVariants as value
+use Rattle.kat_value.specs.declared.value.Value.TheVariants.{rolls-Bool}
+use Rattle.kat_value.specs.Typing.{has_type, layer_has_type}
+use Rattle.kat_ast.specs.Spec.{Spec}
+use Rattle.kat_ast.specs.declared.assertion.Assertion.TheOpen as assertion
+use Rattle.kat_ast.specs.declared.decl.Block.{Block}
+use Rattle.kat_ast.specs.declared.decl.DeclForm.{DeclForm}
+use Rattle.kat_ast.specs.declared.decl.Phase.{Phase}
+use Rattle.kat_ast.specs.declared.decl.Phase.TheVariants as phase
+use Rattle.kat_ast.specs.declared.expr.Expr.{Expr}
+use Rattle.kat_ast.specs.declared.expr.Expr.TheOpen as expr
+use Rattle.kat_ast.specs.declared.expr.Expr.TheFolds.{map-Expr, fold-roll-Expr}
+use Rattle.kat_ast.specs.declared.expr.Expr.TheViews.{roll-Expr}
+use Rattle.kat_ast.specs.declared.stm.Stm.{Stm}
+use Rattle.kat_ast.specs.declared.stm.Stm.TheOpen as stm
+use Rattle.kat_ast.specs.declared.stm.Stm.TheFolds.{map-Stm, fold-roll-Stm}
+use Rattle.kat_ast.specs.declared.stm.Stm.TheViews.{roll-Stm}
+use Rattle.kat_syntax.specs.Cycle.{CycleOutcome, Completed, OutOfCalls, FailedAt, as_cycle, call_of, cycle_of, stuck_place}
+use Rattle.kat_syntax.specs.Evaluation.{Environment, Nothing, expr_value, value_of_expr}
+use Rattle.kat_syntax.specs.Fragments.{nothing, whole}
+use Rattle.kat_syntax.specs.Machine.{MachineState, Progress}
+use Rattle.kat_syntax.specs.Meaning.{Calls, Part, part_of, part_of_stm}
+use Rattle.kat_syntax.specs.Outcomes.{at_site, inside, place_in}
+use Rattle.kat_syntax.specs.Phases.{Boots, IsCodeThere, IsGuardedAt, IsGuardedBy, in_dispatch, phase_of, with_kept}
+use Rattle.kat_syntax.specs.Holds.{predicates_of}
+use Rattle.kat_syntax.specs.OutsideWrites.{poked, poked_at, target_in}
+use Rattle.kat_syntax.specs.declared.places.OutsidePlace.{OutsidePlace}
+use Rattle.kat_syntax.specs.declared.places.Poke.{Poke}
+use Rattle.kat_syntax.specs.Run.{Cycle, Ended, Event, FailedIn, OutIn, OutsideWrite, Run, after_cycle, run_from, run_of, state_behind, with_boundary}
+use Rattle.kat_syntax.specs.Secure.{IsAllowedChange, IsBlockRun, IsNoFailure, IsSecure, IsSecureRun, Left, between, exit_of, is_inside, one_later}
+use Rattle.kat_syntax.specs.States.{IsState}
+use Rattle.kat_claims.specs.Machines.{anything, block, failing, fails, in_block, machine, mode, no_value, rests, resting, yes}
+use Rattle.kat_syntax.specs.Tables.{Name}
+use Rattle.kat_claims.specs.Security.{MachinesAreJudged}
+use Rattle.kat_claims.proofs.Layers.{closed}
+
+-- one layer of an expression
+expr_layer :
+    (env : Environment) (layer : expr.Expr-F Expr) →
+    value_of_expr env (roll-Expr layer)
+    ≡ expr_value env (map-Expr Expr (Option Value) (value_of_expr env) layer)
+expr_layer env layer = fold-roll-Expr (Option Value) (expr_value env) layer
+
+-- one layer of a statement
+stm_layer :
+    (decls : List DeclForm) (calls : Calls) (layer : stm.Stm-F Stm) →
+    part_of_stm decls calls (roll-Stm layer)
+    ≡ part_of decls calls (map-Stm Stm Part (part_of_stm decls calls) layer)
+stm_layer decls calls layer = fold-roll-Stm Part (part_of decls calls) layer
+
+-- `unit` has a value
+unit_value :
+    (decls : List DeclForm) →
+    value_of_expr (record { decls = decls; reads = Nothing; locals = [] }) no_value ≡ Some value.Unit
+unit_value decls = expr_layer (record { decls = decls; reads = Nothing; locals = [] }) expr.Unit
+
+-- how a cycle ends whose body does this, with so many calls left in it
+abbrev ends_as : List DeclForm → MachineState → ℕ → Part → CycleOutcome
+ends_as decls state left part =
+    as_cycle (stuck_place decls)
+    (at_site (place_in 2)
+    (inside 5 (part.does [] (record { state = state; left = left; stores = [] }))))
+
+-- a cycle of the machine that rests leaves the state as it is
+rests_on :
+    (state : MachineState) (left : ℕ) →
+    cycle_of resting (suc left) state
+    ≡ Completed (record { state = state; left = left; stores = [] })
+rests_on state left =
+    ap (ends_as resting.decls state left)
+    (stm_layer resting.decls (call_of resting.decls left) (stm.Ret no_value))
+    ∙ simp (unit_value resting.decls)
+
+-- a cycle of the machine that fails
+fails_there :
+    (state : MachineState) (left : ℕ) →
+    cycle_of failing (suc left) state ≡ FailedAt (record { decl = 2; tree = 5 })
+fails_there state left =
+    ap (ends_as failing.decls state left)
+    (stm_layer failing.decls (call_of failing.decls left) stm.Fail)
+
+-- the state in which the block begins
+abbrev booted : MachineState
+booted = record { registers = value.Bool true ∷ value.Bool false ∷ []; lo = 0; cells = [] }
+
+-- truths are of their type
+truth_has_type : (types : List TypeDecl) (b : Bool) → has_type types (value.Bool b) ty.Bool ≡ true
+truth_has_type types b =
+    ap (λ (v : Value). has_type types v ty.Bool) (sym (rolls-Bool b))
+    ∙ ap (λ (test : Ty → Bool). test ty.Bool)
+    (fold-roll-Value (Ty → Bool) (layer_has_type types) (layer.Bool b))
+
+-- it is a state of the machine, whatever its step does
+booted_is_state : (body : Stm) → IsState (machine phase.Untrusted body) booted
+booted_is_state body = record {
+  registers = simp (truth_has_type [] true, truth_has_type [] false);
+  first = refl;
+  count = refl;
+  fitting = tt;
+}
+
+-- its phase is the block
+booted_phase :
+    (body : Stm) →
+    phase_of (machine phase.Untrusted body) booted ≡ Some (phase.Block block)
+booted_phase body =
+    simp (expr_layer (in_dispatch (machine phase.Untrusted body) booted) (expr.Register mode))
+
+-- it boots
+booted_boots : (body : Stm) → Boots (machine phase.Untrusted body) booted
+booted_boots body = record {
+  name = block;
+  declared = refl;
+  phase = booted_phase body;
+  guarded = subst (IsGuardedAt (machine phase.Untrusted body) booted) (sym (booted_phase body))
+      (record {
+        code = tt;
+        owned = nothing;
+        rest = whole booted;
+        part = record { registers = λ at. refl; cells = λ index. refl };
+        without_kept = (λ at e. refl, tt);
+        without_code = tt;
+        holds = closed (predicates_of (machine phase.Untrusted body)) (assertion.Star [])
+            (with_kept (machine phase.Untrusted body) booted) nothing refl;
+      });
+}
+
+-- the machine that fails is not secure
+failing_fails : IsSecure failing → ⊥
+failing_fails secure =
+    subst (λ (c : CycleOutcome). IsNoFailure (with_boundary booted (after_cycle 1 c
+    (λ next. run_from failing 1 1 next []))).end)
+    (fails_there booted 0)
+    (secure booted 1 (Cycle ∷ []) (booted_is_state fails) (booted_boots fails) tt (refl, tt)).never_fails
+
+-- no outside places
+abbrev no_places : List OutsidePlace
+no_places = []
+
+-- none of them is at any position
+nowhere : (i : ℕ) → slice_get no_places i ≡ None
+nowhere zero = refl
+nowhere (suc i) = refl
+
+-- a write from outside finds no place
+write_finds_nothing :
+    (poke : Poke) (state : MachineState) →
+    state_behind state (poked resting poke state) ≡ state
+write_finds_nothing poke state =
+    ap (λ (place : Option OutsidePlace). state_behind state (poked_at
+    (option_and_then (target_in resting.decls poke.offset) place) poke.bits state))
+    (nowhere poke.ordinal)
+
+-- each boundary of a run is its start, and the run does not fail
+record Rests (state : MachineState) (run : Run) : Type 0 where
+  all : AllByRecursion (λ (s : MachineState). s ≡ state) run.boundaries
+  ends : IsNoFailure run.end
+
+-- the run of the machine that rests
+resting_run :
+    (n k : ℕ) (state : MachineState) (events : List Event) →
+    Rests state (run_from resting n k state events)
+resting_run n k state [] = record { all = (refl, tt); ends = tt }
+resting_run zero k state (Cycle ∷ events) = record { all = (refl, tt); ends = tt }
+resting_run (suc left) k state (Cycle ∷ events) =
+    subst (λ (c : CycleOutcome). Rests state (with_boundary state (after_cycle (k + 1) c
+    (λ next. run_from resting (suc left) (k + 1) next events))))
+    (sym (rests_on state left))
+    (let more = resting_run (suc left) (k + 1) state events in
+    record { all = (refl, more.all); ends = more.ends })
+resting_run n k state (OutsideWrite poke ∷ events) =
+    subst (λ (s : MachineState). Rests state (run_from resting n k s events))
+    (sym (write_finds_nothing poke state)) (resting_run n k state events)
+
+-- what holds of all holds of one among them, and of those behind it
+of_split :
+    (P : MachineState → Type 0) (before after : List MachineState) (state : MachineState) →
+    AllByRecursion P (before ++ state ∷ after) → P state × AllByRecursion P after
+of_split P [] after state all = all
+of_split P (s ∷ before) after state all = of_split P before after state all.1
+
+-- the phase of a boundary that is the start
+start_phase :
+    (start state : MachineState) → phase_of resting.decls start ≡ Some (phase.Block block) →
+    state ≡ start → phase_of resting.decls state ≡ Some (phase.Block block)
+start_phase start state is same =
+    subst (λ (s : MachineState). phase_of resting.decls s ≡ Some (phase.Block block)) (sym same) is
+
+-- a block is not untrusted
+not_untrusted : {T : Type 0} (p : Option Phase) → p ≡ Some (phase.Block block) → p ≡ Some phase.Untrusted → T
+not_untrusted p is e = absurd (let no : Some (phase.Block block) ≡ Some phase.Untrusted = sym is ∙ e in cc)
+
+-- nor inside
+not_inside : (p : Option Phase) → p ≡ Some (phase.Block block) → is_inside p ≡ false
+not_inside p is = ap is_inside is
+
+-- the block of the machine
+abbrev the_block : Block
+the_block = record { name = block; entry = anything; within = 1; change = yes }
+
+-- the block that is found is that
+found_block : (b : Bool) (found : Block) → (if b then Some the_block else None) ≡ Some found → found ≡ the_block
+found_block true found e = sym (ap (λ o. unwrap_or o the_block) e)
+found_block false found e = absurd (cc)
+
+-- its change is always allowed
+all_allowed : (entry exit : MachineState) → IsAllowedChange resting.decls the_block entry exit
+all_allowed entry exit = expr_layer (between resting.decls entry exit) (expr.Truth true)
+
+-- its run ends at the next boundary
+block_ends :
+    (start state : MachineState) (after : List MachineState) →
+    phase_of resting.decls start ≡ Some (phase.Block block) →
+    AllByRecursion (λ (s : MachineState). s ≡ start) after →
+    IsBlockRun resting.decls the_block state (exit_of resting.decls after)
+block_ends start state [] is all = omega arith
+block_ends start state (next ∷ later) is all =
+    subst (λ (b : Bool). IsBlockRun resting.decls the_block state
+    (if b then one_later (exit_of resting.decls later) else Left next 1))
+    (sym (not_inside _ (start_phase start next is all.0)))
+    (omega arith, all_allowed state next)
+
+-- no code cell is declared
+no_code : (states : List MachineState) → AllByRecursion (IsCodeThere resting.decls) states
+no_code [] = tt
+no_code (state ∷ states) = (tt, no_code states)
+
+-- the machine that rests is secure
+resting_secure : IsSecure resting
+resting_secure start calls events is_state boots is_list declared =
+    let at_start = boots.phase in
+    let rests = resting_run calls 0 start events in
+    let block_phase = at_start ∙ ap (λ (x : Name). Some (phase.Block x)) (same_name boots.name boots.declared) in
+    record {
+      never_fails = rests.ends;
+      untrusted_keeps = λ before after state next cut untrusted.
+          let all = subst (AllByRecursion (λ (s : MachineState). s ≡ start)) cut rests.all in
+          let here = of_split (λ (s : MachineState). s ≡ start) before (next ∷ after) state all in
+          not_untrusted _ (start_phase start state block_phase here.0) untrusted;
+      blocks_end = λ before after state cut x found at_block declared_block.
+          let all = subst (AllByRecursion (λ (s : MachineState). s ≡ start)) cut rests.all in
+          let here = of_split (λ (s : MachineState). s ≡ start) before after state all in
+          subst (λ (b : Block). IsBlockRun resting.decls b state (exit_of resting.decls after))
+          (sym (found_block (bytes_eq block x) found declared_block))
+          (block_ends start state after block_phase here.1);
+      inside_behind_block = λ before after state cut inside.
+          let all = subst (AllByRecursion (λ (s : MachineState). s ≡ start)) cut rests.all in
+          let here = of_split (λ (s : MachineState). s ≡ start) before after state all in
+          absurd (let no : false ≡ true = sym (not_inside _ (start_phase start state block_phase here.0)) ∙ inside in cc);
+      code_stays = no_code _;
+    }
+  where
+    same_name : (name : Name) → Some block ≡ Some name → name ≡ block
+    same_name name e = sym (ap (λ o. unwrap_or o block) e)
+
+-- a step that does nothing is secure, and one that fails is not
+pub machines_are_judged : MachinesAreJudged
+machines_are_judged = record { resting_is_secure = resting_secure; failing_is_not = failing_fails }

@@ -1,0 +1,5 @@
+pub mod Fragments
+pub mod Budgets
+pub mod Assertions
+pub mod Machines
+pub mod Security

@@ -1,0 +1,17 @@
+pub mod BoundsRest
+pub mod BoundsSound
+pub mod BoundsSteps
+pub mod Examples
+pub mod FactLaws
+pub mod FactSteps
+pub mod FirstLaws
+pub mod KeptLaws
+pub mod KnownSound
+pub mod LawsBelow
+pub mod PartLaws
+pub mod ReduceKeeps
+pub mod ReduceSteps
+pub mod Relations
+pub mod Search
+pub mod Typed
+pub mod ViewLaws

@@ -1,0 +1,10 @@
+pub mod Bounded
+pub mod Bounds
+pub mod First
+pub mod Kept
+pub mod Known
+pub mod Normal
+pub mod Parts
+pub mod Picked
+pub mod Reduce
+pub mod Views

@@ -1,0 +1,14 @@
+pub mod AddKeeps
+pub mod AddSteps
+pub mod Below
+pub mod Carries
+pub mod FrameSteps
+pub mod LeftTyped
+pub mod Lists
+pub mod NormLimits
+pub mod Owed
+pub mod ProveSound
+pub mod SearchSteps
+pub mod Truths
+pub mod Types
+pub mod ViewLaws

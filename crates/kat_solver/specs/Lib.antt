@@ -1,0 +1,9 @@
+pub mod Add
+pub mod Frames
+pub mod Left
+pub mod Means
+pub mod Owed
+pub mod Pairs
+pub mod Prove
+pub mod Settled
+pub mod Sought

@@ -1,0 +1,2 @@
+mod FirstFields
+mod Firsts

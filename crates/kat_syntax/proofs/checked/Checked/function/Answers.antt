@@ -1,0 +1,31 @@
+use Rattle.std.proofs.Common.{sym, ap, subst, ◌∙◌}
+use Rattle.std.specs.Prelude.{option_and_then}
+use Rattle.kat_ast.specs.Spec.{Spec}
+use Rattle.kat_syntax.specs.RunTables.{declared_at}
+use Rattle.kat_syntax.specs.Tables.{function_from}
+use Rattle.kat_syntax.specs.Functions.{IsFunctionSeen}
+use Rattle.kat_syntax.proofs.FunctionPlaces.{seen_none, number_tells}
+use Rattle.kat_syntax.proofs.checked.Checked.function.Goals as goal
+
+pub returns-in_err-decl-clause-found : goal.returns-in_err-decl-clause-found
+returns-in_err-decl-clause-found c =
+    let all = c.self.inside.spec.decls in
+    let f = c.args.name.now in
+    seen_none c.from_residual.result (function_from 0 c.args.self.now.decls f)
+    c.from_residual.ensures
+    (sym (ap (λ (s : Spec). function_from 0 s.decls f) c.self.view_is)
+    ∙ number_tells all f
+    ∙ ap (option_and_then (declared_at all))
+    (sym (c.self.invariant.found.functions.numbers f) ∙ sym c.find.ensures ∙ c.in_err-decl.was))
+
+pub returns-clause-found : goal.returns-clause-found
+returns-clause-found c =
+    let all = c.self.inside.spec.decls in
+    let f = c.args.name.now in
+    subst (IsFunctionSeen c.function_at.result)
+    (sym (ap (λ (s : Spec). declared_at s.decls c.in_ok-decl.decl) c.self.view_is)
+    ∙ sym (number_tells all f
+    ∙ ap (option_and_then (declared_at all))
+    (sym (c.self.invariant.found.functions.numbers f) ∙ sym c.find.ensures ∙ c.in_ok-decl.was))
+    ∙ ap (λ (s : Spec). function_from 0 s.decls f) c.self.view_is)
+    c.function_at.ensures.found

@@ -1,0 +1,8 @@
+use Rattle.std.proofs.Common.{drop}
+use Rattle.kat_syntax.proofs.Positions.{FindsWith, first_from}
+use Rattle.kat_syntax.proofs.run_tables.text_positions.Given as goal
+
+-- the positions so far, and those of what is left
+abbrev pub invariant-loop-position : goal.invariant-loop-position
+invariant-loop-position l =
+    FindsWith l.named (first_from l.position ((drop l.position l.names))) (first_from 0 (l.names))

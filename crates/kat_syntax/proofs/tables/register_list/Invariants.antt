@@ -1,7 +1,0 @@
-use Rattle.std.proofs.Common.{◌≡◌, ◌++◌, drop}
-use Rattle.kat_syntax.specs.Cycle.{register_names}
-use Rattle.kat_syntax.proofs.tables.register_list.Given as goal
-
--- the names so far and those of what is left are all
-abbrev pub invariant-loop-decl : goal.invariant-loop-decl
-invariant-loop-decl l = l.names ++ register_names (drop l.decl-index l.decls) ≡ register_names l.decls
