@@ -1,8 +1,7 @@
 -- Where a name stands in a list of names that differ, and what one more name does to the list.
-use Rattle.std.proofs.Common.{◌≡◌, ◌≢◌, ℕ, ◌+◌, ◌<◌, ◌↔◌, Bool, false, cond, not, if◌then◌else◌, List, [], ◌∷◌, ◌++◌, map, length, get_or, slice_get, position, Option, None, Some, IsSome, Contains, Global, String, refl, sym, ap, subst, ◌∙◌, arith, true≢false, length-append}
+use Rattle.std.proofs.Common.{◌≡◌, ◌≢◌, ℕ, suc, ◌+◌, ◌<◌, ◌↔◌, ◌||◌, Bool, true, false, nat_lt, cond, not, if◌then◌else◌, List, [], ◌∷◌, ◌++◌, map, length, get_or, slice_get, position, Option, None, Some, Result, Ok, Err, IsSome, Contains, Global, String, refl, sym, ap, subst, ◌∙◌, arith, true≢false, length-append}
 use Rattle.std.proofs.lemmas.Bool.Decides.{nat_tests}
 use Rattle.std.proofs.lemmas.List.{length-map, map-append}
-use Rattle.std.proofs.lemmas.List.Folds.{list_any_none}
 use Rattle.std.proofs.lemmas.List.Quantifiers.{position-Some, all_pairs_push}
 use Rattle.std.proofs.lemmas.List.Sums.{fails_before_first}
 use Rattle.std.proofs.lemmas.Option.{slice_get-get_or, slice_get_within, get_or_from_slice_get}
@@ -11,6 +10,9 @@ use Rattle.std.specs.List.{position_or_len, list_any}
 use Rattle.std.specs.Str.{bytes_eq}
 use Rattle.std.specs.String.{string_bytes, string_eq}
 use Rattle.indexmap.specs.IndexSet.{insert_key}
+use Rattle.kat_names.specs.declared.names.NameError.{NameError}
+use Rattle.kat_names.specs.declared.names.NameError.TheVariants.{Twice, Memory}
+use Rattle.kat_names.specs.NameError.{twice_of}
 use Rattle.kat_names.specs.Names.{most_names, position_of, AllDiffer, IsTable}
 
 position_or_len-map : {A B : Type 0} (f : A → B) (p : B → Bool) (xs : List A) →
@@ -115,29 +117,111 @@ IsTable-push names name table room none = record {
   fits = omega (arith, length-append names (name ∷ []));
 }
 
--- the names `after` are those before and one more at the end, and are a table
-pub record IsAppended (after names : List (List ℕ)) (name : List ℕ) : Type 0 where
-  pub appended : after ≡ names ++ name ∷ []
+-- whether any element passes is whether the first that does stands within
+any_within : {X : Type 0} (p : X → Bool) (xs : List X) →
+    list_any p xs ≡ nat_lt (position_or_len p xs) (length xs)
+any_within p [] = refl
+any_within p (x ∷ xs) = by (p x) (any_within p xs) where
+  by : (b : Bool) → list_any p xs ≡ nat_lt (position_or_len p xs) (length xs) →
+      (b || list_any p xs)
+      ≡ nat_lt (cond (not b) (1 + position_or_len p xs) 0) (suc (length xs))
+  by true behind = grind (arith, nat_tests)
+  by false behind = grind (arith, nat_tests, behind)
+
+-- the position of a key's name among the names of keys, by whether a key has that name
+position-among : (keys : List (String Global)) (key : String Global) →
+    position_of (map string_bytes keys) (string_bytes key)
+    ≡ (if list_any (string_eq key) keys then Some (position_or_len (string_eq key) keys) else None)
+position-among keys key =
+    sym (position-map string_bytes (bytes_eq (string_bytes key)) keys)
+    ∙ ap (λ b. if b then Some (position_or_len (string_eq key) keys) else None)
+    (sym (any_within (string_eq key) keys))
+
+-- a name that no key has does not stand in the table
+pub absent-names : (keys : List (String Global)) (key : String Global) (names : List (List ℕ)) →
+    map string_bytes keys ≡ names → list_any (string_eq key) keys ≡ false →
+    position_of names (string_bytes key) ≡ None
+absent-names keys key names view_is lacks =
+    ap (λ ns. position_of ns (string_bytes key)) (sym view_is) ∙ position-among keys key
+    ∙ ap (λ b. if b then Some (position_or_len (string_eq key) keys) else None) lacks
+
+-- what the insertion of a key does to a table: its name stood at this position, or it goes last
+pub record IsInserted (names after : List (List ℕ)) (name : List ℕ) (at : ℕ) (anew : Bool) :
+    Type 0 where
+  pub stood : position_of names name ≡ (if anew then None else Some at)
+  pub added : after ≡ (if anew then names ++ name ∷ [] else names)
+  pub last : anew ≡ true → at ≡ length names
   pub table : IsTable after
 
--- what the insertion of a key does to a table in which its name did not stand
-pub insert_key-names : (keys after : List (String Global)) (key : String Global)
-    (names : List (List ℕ)) (name : List ℕ) →
+-- the position of a first one that there is not is the length
+past_the_last : {X : Type 0} (p : X → Bool) (xs : List X) → list_any p xs ≡ false →
+    position_or_len p xs ≡ length xs
+past_the_last p [] none = refl
+past_the_last p (x ∷ xs) none = by (p x) none (past_the_last p xs) where
+  by : (b : Bool) → (b || list_any p xs) ≡ false →
+      (list_any p xs ≡ false → position_or_len p xs ≡ length xs) →
+      cond (not b) (1 + position_or_len p xs) 0 ≡ suc (length xs)
+  by true none behind = absurd (true≢false none)
+  by false none behind = omega (arith, behind none)
+
+pub insert_full-names : (keys after : List (String Global)) (key : String Global)
+    (names : List (List ℕ)) (at : ℕ) (anew : Bool) →
     map string_bytes keys ≡ names → IsTable (map string_bytes keys) → length names < most_names →
-    position_of names name ≡ None →
-    string_bytes key ≡ name → after ≡ insert_key string_eq keys key →
-    IsAppended (map string_bytes after) names name
-insert_key-names keys after key names name view_is table room none key_is inserted =
-    let none_of_keys : position (string_eq key) keys ≡ None =
-    position-map string_bytes (bytes_eq (string_bytes key)) keys
-    ∙ (λ i. position_of (view_is i) (key_is i)) ∙ none in
-    let lacks : list_any (string_eq key) keys ≡ false =
-    list_any_none (string_eq key) keys
-    (λ k d within. position-None (string_eq key) keys k d none_of_keys within) in
-    let at_end : after ≡ keys ++ key ∷ [] =
-    inserted ∙ ap (λ b. if b then keys else keys ++ key ∷ []) lacks in
-    let appended : map string_bytes after ≡ names ++ name ∷ [] =
-    ap (map string_bytes) at_end ∙ map-append string_bytes keys (key ∷ [])
-    ∙ (λ i. view_is i ++ key_is i ∷ []) in
-    let pushed = IsTable-push names name (subst IsTable view_is table) room none in
-    record { appended = appended; table = subst IsTable (sym appended) pushed }
+    anew ≡ not (list_any (string_eq key) keys) → at ≡ position_or_len (string_eq key) keys →
+    after ≡ insert_key string_eq keys key →
+    IsInserted names (map string_bytes after) (string_bytes key) at anew
+insert_full-names keys after key names at anew view_is table room told place inserted =
+    subst (λ ns. IsInserted ns (map string_bytes after) (string_bytes key) at anew) view_is
+    (subst (λ b. IsInserted (map string_bytes keys) (map string_bytes after) (string_bytes key) at b)
+    (sym told) (by (list_any (string_eq key) keys) refl)) where
+      few : length (map string_bytes keys) < most_names
+      few = subst (λ ns. length ns < most_names) (sym view_is) room
+
+      by : (b : Bool) → list_any (string_eq key) keys ≡ b →
+          IsInserted (map string_bytes keys) (map string_bytes after) (string_bytes key) at (not b)
+      by true any = record {
+        stood = position-among keys key
+            ∙ ap (λ b. if b then Some (position_or_len (string_eq key) keys) else None) any
+            ∙ ap (λ n. Some n) (sym place);
+        added = ap (map string_bytes)
+            (inserted ∙ ap (λ b. if b then keys else keys ++ key ∷ []) any);
+        last = λ e. absurd (true≢false (sym e));
+        table = subst (λ ks. IsTable (map string_bytes ks))
+            (sym (inserted ∙ ap (λ b. if b then keys else keys ++ key ∷ []) any)) table;
+      }
+      by false any =
+          let none = absent-names keys key (map string_bytes keys) refl any in
+          let appended : map string_bytes after ≡ map string_bytes keys ++ string_bytes key ∷ [] =
+          ap (map string_bytes) (inserted ∙ ap (λ b. if b then keys else keys ++ key ∷ []) any)
+          ∙ map-append string_bytes keys (key ∷ []) in
+          record {
+            stood = none;
+            added = appended;
+            last = λ e.
+                place ∙ past_the_last (string_eq key) keys any ∙ sym (length-map keys string_bytes);
+            table = subst IsTable (sym appended)
+                (IsTable-push (map string_bytes keys) (string_bytes key) table few none);
+          }
+
+-- an answer that tells this position is that the name stands there
+told_twice : (answer : Result ℕ NameError) (i : ℕ) → twice_of answer ≡ Some i →
+    answer ≡ Err (Twice i)
+told_twice (Ok position) i e = absurd (let f : None ≡ Some i = e in cc)
+told_twice (Err (Twice j)) i e =
+    let f : Some j ≡ Some i = e in
+    let same : j ≡ i = cc in
+    ap (λ n. Err (Twice n)) same
+told_twice (Err Memory) i e = absurd (let f : None ≡ Some i = e in cc)
+
+-- an answer that tells the position of a name tells where it stands
+pub twice_where_it_stands : (keys : List (String Global)) (names : List (List ℕ)) (name : List ℕ)
+    (answer : Result ℕ NameError) →
+    map string_bytes keys ≡ names → AllDiffer (map string_bytes keys) →
+    twice_of answer ≡ position_of names name →
+    (i : ℕ) → (answer ≡ Err (Twice i)) ↔ (slice_get names i ≡ Some name)
+twice_where_it_stands keys names name answer view_is differ is i = (
+  λ e. stands_at_position names name i (sym is ∙ ap twice_of e),
+  λ at.
+      told_twice answer i
+      (found_from_place names name (twice_of answer) (subst AllDiffer view_is differ) is i at),
+)

@@ -1,6 +1,7 @@
 //! The table of names, and why it refuses one.
 ghost use Rattle.std.specs.Prelude.{◌≡◌, ◌<◌, ◌≤◌, ◌↔◌, [], ◌∷◌, ◌++◌, ℕ, length, slice_get, Contains, IsSome, IsOk, IsTrue, IfOk, OnOk, OnErr};
 ghost use Rattle.std.specs.Result.{result_ok};
+ghost use Rattle.std.specs.String.{string_bytes};
 ghost use Rattle.kat_names.specs.Names.{most_names, position_of, AllDiffer};
 ghost use Rattle.kat_names.specs.NameError.{twice_of};
 
@@ -42,6 +43,13 @@ impl Table {
         })
     }
 
+    /// Makes room for so many more names, so that adding them moves none.
+    pub fn reserve(&mut self, more: usize) -> Result<(), AllocError>
+        ensures { self.new ≡ self.old }
+    {
+        self.names.reserve(more)
+    }
+
     /// Whether 2^32 names stand in the table, so that none can be added.
     pub fn is_full(&self) -> bool
         ensures full { IsTrue result ↔ (most_names ≤ length self.now) }
@@ -68,12 +76,15 @@ impl Table {
         ensures err { OnErr result (self.new ≡ self.old) }
         ensures distinct { AllDiffer self.new }
     {
-        if let Some(position) = self.position_of(name) {
-            return Err(NameError::Twice(position));
+        let alloc = *self.names.allocator();
+        match String::from_str(alloc, name) {
+            Ok(name) => self.add_owned(name),
+            // Without memory a name that stands already is still known.
+            Err(_) => match self.position_of(name) {
+                Some(position) => Err(NameError::Twice(position)),
+                None => Err(NameError::Memory),
+            },
         }
-        let position = self.names.len() as u32;
-        self.append(name).map_err(|_| NameError::Memory)?;
-        Ok(position)
     }
 
     /// The position of a name, or `Unknown` exactly where it does not stand in the table. Takes no
@@ -98,17 +109,23 @@ impl Table {
         Some(position as u32)
     }
 
-    /// Adds a name that does not stand in the table.
-    fn append(&mut self, name: &str) -> Result<(), AllocError>
-        requires room { length self.old < most_names }
-        requires absent { position_of self.old name.now ≡ None }
-        ensures ok { OnOk result (self.new ≡ self.old ++ name.now ∷ []) }
+    /// Adds a name behind the others, or tells where it stands, by one look at the table.
+    fn add_owned(&mut self, name: String) -> Result<u32, NameError>
+        requires { length self.old < most_names }
+        ensures last { IfOk result (λ position. position ≡ length self.old) }
+        ensures added { OnOk result (self.new ≡ self.old ++ string_bytes name ∷ []) }
+        ensures position { twice_of result ≡ position_of self.old (string_bytes name) }
         ensures err { OnErr result (self.new ≡ self.old) }
         ensures distinct { AllDiffer self.new }
     {
-        let alloc = *self.names.allocator();
-        self.names.insert(String::from_str(alloc, name)?)?;
-        Ok(())
+        let Ok((position, anew)) = self.names.insert_full(name) else {
+            return Err(NameError::Memory);
+        };
+        let position = position as u32;
+        if !anew {
+            return Err(NameError::Twice(position));
+        }
+        Ok(position)
     }
 }
 

@@ -9,7 +9,6 @@ mod laws;
 mod literals;
 mod orders;
 mod truths;
-mod values;
 mod views;
 mod widths;
 

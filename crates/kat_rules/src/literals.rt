@@ -6,9 +6,8 @@ ghost use Rattle.kat_value.specs.Operations.{value_of_op};
 ghost use Rattle.kat_value.specs.Making.{all_there};
 ghost use Rattle.kat_rules.specs.Truths.{plain_of, op_on_literals};
 
-use crate::values::{value_of_one, value_of_three, value_of_two};
 use kat_term::{Shape, Term, literal, literal_in, shape_of};
-use kat_value::{Op, Ty, Value};
+use kat_value::{Op, Ty, Value, operate_on_one, operate_on_three, operate_on_two};
 use std::alloc::{AllocError, Global};
 
 /// An operation on literals alone is its literal.
@@ -36,7 +35,7 @@ fn value_on_literals(alloc: Global, op: Op, args: &[Term]) -> Result<Option<Valu
             let Some(x) = plain_in(a) else {
                 return Ok(None);
             };
-            value_of_one(alloc, op, x)
+            operate_on_one(alloc, op, x)
         }
         [a, b] => {
             let Some(x) = plain_in(a) else {
@@ -45,7 +44,7 @@ fn value_on_literals(alloc: Global, op: Op, args: &[Term]) -> Result<Option<Valu
             let Some(y) = plain_in(b) else {
                 return Ok(None);
             };
-            Ok(value_of_two(op, x, y))
+            Ok(operate_on_two(op, x, y))
         }
         [a, b, c] => {
             let Some(x) = plain_in(a) else {
@@ -57,7 +56,7 @@ fn value_on_literals(alloc: Global, op: Op, args: &[Term]) -> Result<Option<Valu
             let Some(z) = plain_in(c) else {
                 return Ok(None);
             };
-            value_of_three(alloc, op, x, y, z)
+            Ok(operate_on_three(op, x, y, z))
         }
         [_, _, _, _, ..] => Ok(None),
     }

@@ -1,6 +1,8 @@
-//! Each operation on bits at the edges of its widths, against what is reckoned bit by bit.
+//! Each operation at the edges of its widths, against what is reckoned bit by bit.
 
 use super::*;
+use sqlite_items::Items;
+use std::alloc::{AllocError, Global};
 use std::test::Fail;
 
 /// The least width, one in between, and the two greatest.
@@ -108,6 +110,37 @@ fn product(width: u32, a: u64, b: u64) -> u64 {
     })
 }
 
+/// The complement, bit by bit.
+fn complement(width: u32, number: u64) -> u64 {
+    (0..width).fold(0, |flipped, at| flipped | bit_at(!has_bit(number, at), at))
+}
+
+/// So many bits from a place on.
+fn bits_from(number: u64, lo: u32, count: u32) -> u64 {
+    (0..count).fold(0, |bits, at| {
+        bits | bit_at(has_bit(number, lo.saturating_add(at)), at)
+    })
+}
+
+/// A number with its top bit at all higher places of a width.
+fn with_its_sign(width: u32, number: u64, wide: u32) -> u64 {
+    (0..wide).fold(0, |signed, at| {
+        signed | bit_at(has_bit(number, at.min(top_of(width))), at)
+    })
+}
+
+/// The bits of a number above those of another.
+fn above(high: u64, low_width: u32, low: u64) -> u64 {
+    (0..64).fold(0, |whole, at| {
+        let set = if at < low_width {
+            has_bit(low, at)
+        } else {
+            has_bit(high, at.saturating_sub(low_width))
+        };
+        whole | bit_at(set, at)
+    })
+}
+
 /// What two bits give.
 fn of_bits(op: Op, x: bool, y: bool) -> bool {
     match op {
@@ -167,5 +200,202 @@ fn operations_on_two_agree_at_the_edges(rt: HostRuntime) -> Result<(), Fail> {
             }
         }
     }
+    Ok(())
+}
+
+/// Whether an operation on one number gives this.
+fn gives(alloc: Global, op: Op, value: &Value, wanted: &Value) -> Result<bool, AllocError> {
+    match operate_on_one(alloc, op, value)? {
+        Some(given) => Ok(same_value(&given, wanted)),
+        None => Ok(false),
+    }
+}
+
+/// Whether the complement and the extensions agree on a number; there is no extension to less.
+fn wholes_agree(alloc: Global, width: u32, a: u64) -> Result<bool, AllocError> {
+    let value = Value::Bits { width, number: a };
+    let flipped = complement(width, a);
+    let mut agree = gives(
+        alloc,
+        Op::Bnot,
+        &value,
+        &Value::Bits {
+            width,
+            number: flipped,
+        },
+    )?;
+    for wide in WIDTHS {
+        let (zext, sext) = (u64::from(*wide), u64::from(*wide));
+        let filled = Value::Bits {
+            width: *wide,
+            number: a,
+        };
+        let signed = Value::Bits {
+            width: *wide,
+            number: with_its_sign(width, a, *wide),
+        };
+        let zeros = gives(alloc, Op::Zext { width: zext }, &value, &filled)?;
+        let signs = gives(alloc, Op::Sext { width: sext }, &value, &signed)?;
+        agree = agree && zeros == (*wide >= width) && signs == (*wide >= width);
+    }
+    Ok(agree)
+}
+
+/// Whether a slice agrees: the bits from `lo` to `hi`, where both are places and in order.
+fn slice_agrees(alloc: Global, width: u32, a: u64, hi: u32, lo: u32) -> Result<bool, AllocError> {
+    let op = Op::Slice {
+        hi: u64::from(hi),
+        lo: u64::from(lo),
+    };
+    let count = hi.saturating_sub(lo).saturating_add(1);
+    let wanted = Value::Bits {
+        width: count,
+        number: bits_from(a, lo, count),
+    };
+    let given = gives(alloc, op, &Value::Bits { width, number: a }, &wanted)?;
+    Ok(given == (lo <= hi && hi < width))
+}
+
+/// The places at the edges of a width, and the first behind it.
+fn places(width: u32) -> [u32; 5] {
+    let top = top_of(width);
+    [0, 1, top.saturating_sub(1), top, width]
+}
+
+/// Whether two numbers joined agree, where their bits fit.
+fn join_agrees(a: &Value, b: &Value) -> bool {
+    let (
+        Value::Bits {
+            width: high,
+            number: x,
+        },
+        Value::Bits {
+            width: low,
+            number: y,
+        },
+    ) = (a, b)
+    else {
+        return false;
+    };
+    let width = high.saturating_add(*low);
+    let wanted = Value::Bits {
+        width,
+        number: above(*x, *low, *y),
+    };
+    match operate_on_two(Op::Cat, a, b) {
+        Some(value) => width <= WIDEST && same_value(&value, &wanted),
+        None => width > WIDEST,
+    }
+}
+
+/// Whether a choice between two values gives the one that its test tells, and none by another test.
+fn choice_agrees(a: &Value, b: &Value) -> bool {
+    let choice = |test: &Value| operate_on_three(Op::Ite, test, a, b);
+    let first = choice(&Value::Bool(true)).is_some_and(|value| same_value(&value, a));
+    let second = choice(&Value::Bool(false)).is_some_and(|value| same_value(&value, b));
+    first && second && choice(a).is_none() == !matches!(a, Value::Bool(_))
+}
+
+#[test]
+fn operations_on_one_agree_at_the_edges(rt: HostRuntime) -> Result<(), Fail> {
+    for width in WIDTHS {
+        for a in edges(*width) {
+            assert!(rt; wholes_agree(rt.alloc(), *width, a)?, "{a}, {width} bits");
+            for hi in places(*width) {
+                for lo in places(*width) {
+                    let agrees = slice_agrees(rt.alloc(), *width, a, hi, lo)?;
+                    assert!(rt; agrees, "{hi} to {lo} of {a}, {width} bits");
+                }
+            }
+        }
+    }
+    Ok(())
+}
+
+#[test]
+fn joins_and_choices_agree_at_the_edges(rt: HostRuntime) -> Result<(), Fail> {
+    for first in WIDTHS {
+        for second in WIDTHS {
+            for a in edges(*first) {
+                for b in edges(*second) {
+                    let high = Value::Bits {
+                        width: *first,
+                        number: a,
+                    };
+                    let low = Value::Bits {
+                        width: *second,
+                        number: b,
+                    };
+                    assert!(rt;
+                        join_agrees(&high, &low),
+                        "{a} above {b}, {first} and {second} bits"
+                    );
+                    let chosen = choice_agrees(&high, &low);
+                    assert_eq!(rt;
+                        chosen,
+                        first == second,
+                        "{a} or {b}, {first} and {second} bits"
+                    );
+                }
+            }
+        }
+    }
+    Ok(())
+}
+
+#[test]
+fn truths_agree(rt: HostRuntime) -> Result<(), Fail> {
+    for a in [false, true] {
+        for b in [false, true] {
+            let (first, second) = (Value::Bool(a), Value::Bool(b));
+            let both = operate_on_two(Op::And, &first, &second);
+            let either = operate_on_two(Op::Or, &first, &second);
+            let same = operate_on_two(Op::Eq, &first, &second);
+            let is = |value: Option<Value>, wanted: bool| {
+                value.is_some_and(|value| same_value(&value, &Value::Bool(wanted)))
+            };
+            assert!(rt; is(both, if a { b } else { false }), "{a} and {b}");
+            assert!(rt; is(either, if a { true } else { b }), "{a} or {b}");
+            assert!(rt; is(same, if a { b } else { !b }), "{a} is {b}");
+            assert!(rt;
+                choice_agrees(&first, &second),
+                "a choice between {a} and {b}"
+            );
+        }
+        let flipped = Value::Bool(if a { false } else { true });
+        assert!(rt;
+            gives(rt.alloc(), Op::Not, &Value::Bool(a), &flipped)?,
+            "not {a}"
+        );
+    }
+    Ok(())
+}
+
+#[test]
+fn fields_agree_at_the_edges(rt: HostRuntime) -> Result<(), Fail> {
+    let mut fields = Items::new(rt.alloc());
+    for width in WIDTHS {
+        fields.push(Value::Bits {
+            width: *width,
+            number: all_bits(*width),
+        })?;
+    }
+    let record = Value::Rec { of: 2, fields };
+    for (at, width) in WIDTHS.iter().enumerate() {
+        let wanted = Value::Bits {
+            width: *width,
+            number: all_bits(*width),
+        };
+        let field = at as u32;
+        assert!(rt;
+            gives(rt.alloc(), Op::Get { of: 2, field }, &record, &wanted)?,
+            "field {at}"
+        );
+        assert!(rt;
+            !gives(rt.alloc(), Op::Get { of: 1, field }, &record, &wanted)?,
+            "of another"
+        );
+    }
+    assert!(rt; operate_on_one(rt.alloc(), Op::Get { of: 2, field: 4 }, &record)?.is_none());
     Ok(())
 }
