@@ -1,4 +1,8 @@
 mod Lines
-mod Assignments
+mod WordLemmas
+mod Cells
+mod Levels
+mod Said
 mod Settings
+mod Places
 mod Reading

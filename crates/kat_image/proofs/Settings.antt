@@ -1,6 +1,8 @@
 -- What lines set.
-use Rattle.std.proofs.Common.{◌≡◌, ◌≢◌, ℕ, zero, suc, ◌<◌, ◌≤◌, List, [], ◌∷◌, ◌++◌, length, take, get_or, set, Option, Some, inl, inr, ⊎_elim, refl, sym, ap, ◌∙◌, subst, arith}
-use Rattle.std.specs.Prelude.{slice_get}
+use Rattle.std.proofs.Common.{◌≡◌, ◌≢◌, ℕ, zero, suc, ◌<◌, Bool, true, false, if◌then◌else◌, List, [], ◌∷◌, ◌++◌, length, take, get_or, set, Option, None, Some, inl, inr, ⊎_elim, refl, sym, ap, ◌∙◌, subst, arith}
+use Rattle.std.specs.Option.{option_map}
+use Rattle.std.specs.Prelude.{slice_get, option_and_then}
+use Rattle.std.specs.Str.{is_utf8}
 use Rattle.std.proofs.lemmas.Bool.{cases_lt}
 use Rattle.std.proofs.lemmas.Grind.{common_steps}
 use Rattle.std.proofs.lemmas.List.{take-append-le, get_or_default, get_or-take, get_or_push}
@@ -8,10 +10,14 @@ use Rattle.std.proofs.lemmas.List.Elements.{Contains-append_left, Contains-push,
 use Rattle.std.proofs.Math.ListN.{get_or-append}
 use Rattle.std.proofs.Math.Seq.{take-append_seam, get_or-append_seam}
 use Rattle.kat_value.specs.declared.value.Value.{Value}
+use Rattle.kat_value.specs.declared.value.Value.TheVariants.{Bits}
 use Rattle.kat_ast.specs.Spec.{Spec}
 use Rattle.kat_syntax.specs.Machine.{MachineState}
-use Rattle.kat_image.specs.Image.{Line, Sets, IsSet, IsUnset, MayFollow, AreSettings, HasItsValue, IsImageOf, IsFirstRefused, lines_of}
-use Rattle.kat_image.proofs.Assignments.{one_setting, empty_words}
+use Rattle.kat_syntax.specs.States.{cell_width}
+use Rattle.kat_image.specs.declared.setting.Setting.{Setting}
+use Rattle.kat_image.specs.Lines.{said_by, setting_of}
+use Rattle.kat_image.specs.Words.{behind}
+use Rattle.kat_image.specs.Image.{Line, Place, RegisterAt, CellAt, Sets, SetsFree, IsSet, IsUnset, MayFollow, AreSettings, HasItsValue, IsImageOf, IsFirstRefused, given, lines_of, value_at}
 
 -- one place of a list
 pub get-set_same : {X : Type 0} → (xs : List X) (i : ℕ) (x : X) → i < length xs →
@@ -38,17 +44,31 @@ same_from_gets {X} (x ∷ xs) (y ∷ ys) h =
     let head : x ≡ y = cc in
     ap (λ z. z ∷ xs) head ∙ ap (λ zs. y ∷ zs) (same_from_gets xs ys (λ i. h (suc i)))
 
+-- what an option has
+pub some_same : {A : Type 0} (x y : A) → ◌≡◌ {A = Option A} (Some x) (Some y) → x ≡ y
+some_same x y e = cc
+
 module _ (spec : Spec) where
+  -- an empty line sets nothing
+  no_front : (b : Bool) → option_and_then (λ (keyword : List ℕ × List ℕ).
+      option_and_then (said_by spec keyword.0) (behind 32 keyword.1))
+      (if b then Some ([], []) else None) ≡ None
+  no_front true = refl
+  no_front false = refl
+
+  pub empty_line : setting_of spec [] ≡ None
+  empty_line = no_front (is_utf8 [])
+
   -- one line more
-  pub IsSet-more : (lines : List Line) (line : Line) (at : ℕ) (v : Value) → IsSet spec lines at v →
-      IsSet spec (lines ++ line ∷ []) at v
+  pub IsSet-more : (lines : List Line) (line : Line) (at : Place) (v : Value) →
+      IsSet spec lines at v → IsSet spec (lines ++ line ∷ []) at v
   IsSet-more lines line at v h = (h.0, Contains-append_left lines (line ∷ []) h.0 h.1, h.2)
 
-  pub IsSet-last : (lines : List Line) (line : Line) (at : ℕ) (v : Value) → Sets spec line at v →
-      IsSet spec (lines ++ line ∷ []) at v
+  pub IsSet-last : (lines : List Line) (line : Line) (at : Place) (v : Value) →
+      Sets spec line at v → IsSet spec (lines ++ line ∷ []) at v
   IsSet-last lines line at v sets = (line, Contains-push lines line, sets)
 
-  pub IsUnset-push : (lines : List Line) (line : Line) (at : ℕ) → IsUnset spec lines at →
+  pub IsUnset-push : (lines : List Line) (line : Line) (at : Place) → IsUnset spec lines at →
       ((v : Value) → Sets spec line at v → ⊥) → IsUnset spec (lines ++ line ∷ []) at
   IsUnset-push lines line at unset not v h =
       ⊎_elim (λ there. unset v (h.0, there, h.2)) (λ same. not v (subst (λ l. Sets spec l at v)
@@ -73,38 +93,53 @@ module _ (spec : Spec) where
       (subst (MayFollow spec lines) (sym same) may))
       (cases_lt k (length lines))
 
-  pub empty_sets : (line : Line) (at : ℕ) (v : Value) → line ≡ [] → Sets spec line at v → ⊥
-  empty_sets line at v empty sets = empty_words line sets.assigns.name sets.assigns.word empty
-      sets.assigns.words
+  pub empty_sets : (line : Line) (at : Place) (v : Value) → line ≡ [] → Sets spec line at v → ⊥
+  empty_sets line at v empty sets =
+      let none : ◌≡◌ {A = Option Setting} None (Some sets.setting) =
+      sym empty_line ∙ ap (setting_of spec) (sym empty) ∙ sets.said in cc
 
-  pub HasItsValue-kept : (lines : List Line) (line : Line) (old new : List Value) (at : ℕ) →
-      HasItsValue spec lines old at → ((v : Value) → Sets spec line at v → ⊥) → slice_get new at ≡
-      slice_get old at → HasItsValue spec (lines ++ line ∷ []) new at
+  pub HasItsValue-kept : (lines : List Line) (line : Line) (old new : MachineState) (at : Place) →
+      HasItsValue spec lines old at → ((v : Value) → Sets spec line at v → ⊥) →
+      value_at spec new at ≡ value_at spec old at →
+      HasItsValue spec (lines ++ line ∷ []) new at
   HasItsValue-kept lines line old new at (inl h) not same =
       inl (h.0, IsSet-more lines line at h.0 h.1, same ∙ h.2)
   HasItsValue-kept lines line old new at (inr h) not same =
       inr (IsUnset-push lines line at h.0 not, same ∙ h.1)
 
-  pub HasItsValue-set : (lines : List Line) (line : Line) (new : List Value) (at : ℕ) (v : Value) →
-      Sets spec line at v → slice_get new at ≡ Some v → HasItsValue spec (lines ++ line ∷ []) new at
+  pub HasItsValue-set : (lines : List Line) (line : Line) (new : MachineState) (at : Place)
+      (v : Value) → Sets spec line at v → value_at spec new at ≡ Some v →
+      HasItsValue spec (lines ++ line ∷ []) new at
   HasItsValue-set lines line new at v sets there = inl (v, IsSet-last lines line at v sets, there)
 
-  -- of two lines that set one register the later one may not stand there
-  later : (lines : List Line) (i j at : ℕ) (x y : Line) (v w : Value) → AreSettings spec lines →
-      i < j → j < length lines → get_or lines i x ≡ x → get_or lines j y ≡ y → Sets spec x at v →
-      Sets spec y at w → ⊥
+  -- a line gives a place one value
+  one_setting : (line : Line) (at : Place) (v w : Value) → Sets spec line at v →
+      Sets spec line at w → v ≡ w
+  one_setting line at v w a b =
+      let same : a.setting ≡ b.setting = some_same a.setting b.setting (sym a.said ∙ b.said) in
+      some_same v w (sym a.gives ∙ ap (λ s. given spec s at) same ∙ b.gives)
+
+  free_place : (lines : List Line) (line : Line) (at : Place) (w : Value) →
+      SetsFree spec lines line → Sets spec line at w → IsUnset spec lines at
+  free_place lines line at w h sets =
+      let same : sets.setting ≡ h.setting =
+      some_same sets.setting h.setting (sym sets.said ∙ h.said) in
+      h.free at w (ap (λ s. given spec s at) (sym same) ∙ sets.gives)
+
+  -- of two lines that set one place the later one may not stand there
+  later : (lines : List Line) (i j : ℕ) (at : Place) (x y : Line) (v w : Value) →
+      AreSettings spec lines → i < j → j < length lines → get_or lines i x ≡ x →
+      get_or lines j y ≡ y → Sets spec x at v → Sets spec y at w → ⊥
   later lines i j at x y v w settings lt within x_is y_is x_sets y_sets =
       let may : MayFollow spec (take j lines) y = subst (MayFollow spec (take j lines)) y_is
       (settings j y within) in
       let low : i < length (take j lines) = grind (arith, common_steps) in
       let there : get_or (take j lines) i x ≡ x = get_or-take j lines i x lt ∙ x_is in
       ⊎_elim (λ empty. empty_sets y at w empty y_sets)
-      (λ h.
-      let same : h.0 ≡ at = (one_setting spec y h.0 at h.1 w h.2 y_sets).0 in
-      h.3 v (x, (i, low, there), subst (λ k. Sets spec x k v) (sym same) x_sets))
+      (λ h. free_place (take j lines) y at w h y_sets v (x, (i, low, there), x_sets))
       may
 
-  pub one_value : (lines : List Line) (at : ℕ) (v w : Value) → AreSettings spec lines →
+  pub one_value : (lines : List Line) (at : Place) (v w : Value) → AreSettings spec lines →
       IsSet spec lines at v → IsSet spec lines at w → v ≡ w
   one_value lines at v w settings a b =
       let i = a.1.0 in
@@ -116,17 +151,28 @@ module _ (spec : Spec) where
       let same : i ≡ j = omega arith in
       let lines_same : a.0 ≡ b.0 = sym a.1.2 ∙ ap (λ k. get_or lines k a.0) same ∙ get_or_default
       lines j a.0 b.0 b.1.1 ∙ b.1.2 in
-      (one_setting spec b.0 at at v w (subst (λ l. Sets spec l at v) lines_same a.2) b.2).1)
+      one_setting b.0 at v w (subst (λ l. Sets spec l at v) lines_same a.2) b.2)
       (cases_lt j i))
       (cases_lt i j)
 
-  one_register : (lines : List Line) (a b : List Value) (at : ℕ) → AreSettings spec lines →
-      HasItsValue spec lines a at → HasItsValue spec lines b at → slice_get a at ≡ slice_get b at
-  one_register lines a b at settings (inl h) (inl k) = h.2 ∙ ap Some
+  one_place : (lines : List Line) (a b : MachineState) (at : Place) → AreSettings spec lines →
+      HasItsValue spec lines a at → HasItsValue spec lines b at →
+      value_at spec a at ≡ value_at spec b at
+  one_place lines a b at settings (inl h) (inl k) = h.2 ∙ ap Some
       (one_value lines at h.0 k.0 settings h.1 k.1) ∙ sym k.2
-  one_register lines a b at settings (inl h) (inr k) = absurd (k.0 h.0 h.1)
-  one_register lines a b at settings (inr h) (inl k) = absurd (h.0 k.0 k.1)
-  one_register lines a b at settings (inr h) (inr k) = h.1 ∙ sym k.1
+  one_place lines a b at settings (inl h) (inr k) = absurd (k.0 h.0 h.1)
+  one_place lines a b at settings (inr h) (inl k) = absurd (h.0 k.0 k.1)
+  one_place lines a b at settings (inr h) (inr k) = h.1 ∙ sym k.1
+
+-- bits of one width tell their numbers
+bits_told : (w : ℕ) (a b : Option ℕ) → option_map (Bits w) a ≡ option_map (Bits w) b → a ≡ b
+bits_told w None None e = refl
+bits_told w None (Some n) e = absurd (cc)
+bits_told w (Some n) None e = absurd (cc)
+bits_told w (Some n) (Some m) e =
+    let same : Bits w n ≡ Bits w m = some_same (Bits w n) (Bits w m) e in
+    let told : n ≡ m = cc in
+    ap Some told
 
 state_same : (a b : MachineState) → a.registers ≡ b.registers → a.lo ≡ b.lo → a.cells ≡ b.cells →
     a ≡ b
@@ -138,9 +184,12 @@ state_same a b registers first cells =
 pub one_state : (spec : Spec) (bytes : List ℕ) (a b : MachineState) → IsImageOf spec bytes a →
     IsImageOf spec bytes b → a ≡ b
 one_state spec bytes a b x y =
-    state_same a b (same_from_gets a.registers b.registers (λ at. one_register spec (lines_of bytes)
-    a.registers b.registers at x.settings (x.values at) (y.values at))) (x.first ∙ sym y.first)
-    (x.cells ∙ sym y.cells)
+    let same : (at : Place) → value_at spec a at ≡ value_at spec b at =
+    λ at. one_place spec (lines_of bytes) a b at x.settings (x.values at) (y.values at) in
+    state_same a b (same_from_gets a.registers b.registers (λ at. same (RegisterAt at)))
+    (x.first ∙ sym y.first)
+    (same_from_gets a.cells b.cells (λ at. bits_told (cell_width spec.decls) (slice_get a.cells at)
+    (slice_get b.cells at) (same (CellAt at))))
 
 -- a text with a line that is refused is an image of no state
 pub refused_image : (spec : Spec) (bytes : List ℕ) (number : ℕ) (state : MachineState) →

@@ -1,3 +1,6 @@
+pub mod Words
+pub mod ValueText
+pub mod Lines
 pub mod Image
 pub mod ImageError
 pub mod Reader

@@ -1,26 +1,26 @@
-//! The image of a machine: the values that its registers have at the start.
+//! The image of a machine: the values that its registers and cells have at the start.
 
-ghost use Rattle.std.specs.Prelude.{◌≡◌, ◌≢◌, ℕ, List, false, replicate, length, IfOk, IfErr, IfSome, IsTrue, IsFalse};
+ghost use Rattle.std.specs.Prelude.{◌≡◌, ◌≢◌, ◌≤◌, ◌<◌, ◌+◌, ℕ, List, [], ◌∷◌, false, true, replicate, length, slice_get, Some, IfOk, IfErr, IsTrue, IsFalse};
+ghost use Rattle.kat_ast.specs.Spec.{Spec};
 ghost use Rattle.kat_syntax.specs.Machine.{MachineState};
 ghost use Rattle.kat_syntax.specs.Start.{start_of};
-ghost use Rattle.kat_value.specs.Widths.{is_number};
 ghost use Rattle.kat_image.specs.Image.{Line, IsImageOf, IsFirstRefused};
 ghost use Rattle.kat_image.specs.ImageError.{IsFault, Gives, Names};
-ghost use Rattle.kat_image.specs.Reader.{IsReadTo, IsFree, IsSetTo, Takes};
+ghost use Rattle.kat_image.specs.Reader.{HasRoom, IsReadTo, IsSetFree, IsTaken, IsWithin, Takes, with_cells, with_register};
 ghost use Rattle.kat_image.specs.declared.fault.ImageError.{ImageError};
 
 use crate::fault::ImageError;
-use crate::line::{assigned, first_line};
+use crate::line::first_line;
+use crate::setting::{Setting, setting_of};
 use kat_state::State;
 use kat_syntax::Checked;
-use kat_value::{Ty, Value, is_number};
+use kat_value::Value;
 use sqlite_items::Items;
 use std::alloc::{AllocError, Global};
 
-/// The state that an image stands for: its lines set registers of bits, and what they do not name
-/// is as in `State::start`. `Line` comes
-/// exactly where the bytes are no image of the machine, and names the first line that is not of the
-/// format.
+/// The state that an image stands for: its lines set registers and cells, and what they do not name
+/// is as in `State::start`. `Line` comes exactly where the bytes are no image of the machine, and
+/// names the first line that is not of the format.
 pub fn read_image(alloc: Global, bytes: &[u8], machine: &Checked) -> Result<State, ImageError>
     // What is read is what the bytes are an image of.
     ensures found { IfOk result (IsImageOf machine.now bytes.now) }
@@ -41,7 +41,8 @@ pub fn read_image(alloc: Global, bytes: &[u8], machine: &Checked) -> Result<Stat
     let mut number: u64 = 1;
     loop {
         let (line, behind) = first_line(rest);
-        if !image.take(machine, line) {
+        let taken = image.take(alloc, machine, line)?;
+        if !taken {
             return Err(ImageError::Line(number));
         }
         let Some(more) = behind else {
@@ -57,66 +58,138 @@ pub fn read_image(alloc: Global, bytes: &[u8], machine: &Checked) -> Result<Stat
 #[derive(Drop)]
 struct Image {
     state: State,
+    /// The first index of the memory.
+    lo: u64,
     /// Which registers a line has set.
-    is_set: Items<bool>,
+    registers_set: Items<bool>,
+    /// Which cells a line has set, from the first of the memory on.
+    cells_set: Items<bool>,
 }
 
 impl Image {
     /// Before the first line.
     fn start(alloc: Global, machine: &Checked) -> Result<Image, AllocError>
         ensures state { IfOk result (λ image. image.state ≡ start_of machine.now) }
-        ensures unset { let count = length (start_of machine.now).registers in
-            IfOk result (λ image. image.is_set ≡ replicate count false) }
+        ensures registers { let count = length (start_of machine.now).registers in
+            IfOk result (λ image. image.registers_set ≡ replicate count false) }
+        ensures cells { let count = length (start_of machine.now).cells in
+            IfOk result (λ image. image.cells_set ≡ replicate count false) }
+        ensures room { IfOk result (HasRoom machine.now) }
     {
         let state = State::start(alloc, machine)?;
-        let is_set = Items::from_vec(vec![in alloc; false; state.registers().len()]?);
-        Ok(Image { state, is_set })
-    }
-
-    /// The width of a register that no line has set, where the register at its position is one of
-    /// bits.
-    fn free_width(&self, types: &[Ty], at: u32) -> Option<u32>
-        ensures found { IfSome result (λ width. IsFree types.now self.now at width) }
-        ensures only { (width : ℕ) → IsFree types.now self.now at width → result ≡ Some width }
-    {
-        match (self.is_set.get(at as usize), types.get(at as usize)) {
-            (Some(false), Some(Ty::Bits(width))) => Some(*width),
-            _ => None,
-        }
-    }
-
-    /// Sets a register, which no line before has set, to a number that fits; else leaves the image
-    /// as it was.
-    fn set(&mut self, types: &[Ty], at: u32, number: u64) -> bool
-        requires { length self.old.is_set ≡ length self.old.state.registers }
-        ensures set { IsTrue result → IsSetTo types.now self.old at number self.new }
-        ensures unset { IsFalse result → (width : ℕ) → IsFree types.now self.old at width →
-            IsTrue (is_number width number) → ⊥ }
-        ensures kept { IsFalse result → self.new ≡ self.old }
-    {
-        let Some(width) = self.free_width(types, at) else {
-            return false;
+        let registers_set = Items::from_vec(vec![in alloc; false; state.registers().len()]?);
+        let (lo, count) = match machine.memory() {
+            Some(memory) => (memory.lo, memory.hi.saturating_sub(memory.lo)),
+            None => (0, 0),
         };
-        if !is_number(width, number) {
-            return false;
-        }
-        self.is_set.set(at as usize, true);
-        self.state.set_reg(at, Value::Bits { width, number });
-        true
+        let cells_set = Items::from_vec(vec![in alloc; false; count as usize]?);
+        Ok(Image {
+            state,
+            lo,
+            registers_set,
+            cells_set,
+        })
     }
 
     /// Takes a line, if it may stand behind those before it.
-    fn take(&mut self, machine: &Checked, line: &[u8]) -> bool
-        requires { length self.old.is_set ≡ length self.old.state.registers }
-        ensures { (lines : List Line) → IsReadTo machine.now lines self.old →
-            Takes machine.now lines line.now result self.new }
+    fn take(&mut self, alloc: Global, machine: &Checked, line: &[u8]) -> Result<bool, AllocError>
+        requires { HasRoom machine.now self.old }
+        ensures taken { (lines : List Line) → IsReadTo machine.now lines self.old →
+            IfOk result (λ taken. Takes machine.now lines line.now taken self.new) }
+        ensures room { IfOk result (λ taken. HasRoom machine.now self.new) }
     {
         if line.is_empty() {
-            return true;
+            return Ok(true);
         }
-        match assigned(machine, line) {
-            None => false,
-            Some((at, number)) => self.set(machine.register_types(), at, number),
+        match setting_of(alloc, machine, line)? {
+            None => Ok(false),
+            Some(setting) => Ok(self.set(setting)),
         }
+    }
+
+    /// Sets what no line before has set; where one has, it sets nothing.
+    fn set(&mut self, setting: Setting) -> bool
+        requires within { IsWithin self.old setting }
+        requires room { (spec : Spec) × HasRoom spec self.old }
+        ensures set { IsTrue result → (spec : Spec) → IsSetFree spec self.old setting self.new }
+        ensures taken { IsFalse result → (spec : Spec) → IsTaken spec self.old setting }
+        ensures kept { IsFalse result → self.new ≡ self.old }
+    {
+        match setting {
+            Setting::Register { at, value } => self.set_register(at, value),
+            Setting::Cells { at, numbers } => self.set_cells(at, numbers.as_slice()),
+        }
+    }
+
+    /// Sets a register that no line before has set.
+    fn set_register(&mut self, at: u32, value: Value) -> bool
+        requires within { at < length self.old.registers_set }
+        requires room { (spec : Spec) × HasRoom spec self.old }
+        ensures free { IsTrue result → slice_get self.old.registers_set at ≡ Some false }
+        ensures set { IsTrue result → self.new ≡ with_register self.old at value }
+        ensures taken { IsFalse result → slice_get self.old.registers_set at ≡ Some true }
+        ensures kept { IsFalse result → self.new ≡ self.old }
+    {
+        if self.registers_set.as_slice()[at as usize] {
+            return false;
+        }
+        self.state.set_reg(at, value);
+        self.registers_set.set(at as usize, true);
+        true
+    }
+
+    /// Sets cells of which no line before has set one.
+    fn set_cells(&mut self, at: u64, numbers: &[u64]) -> bool
+        requires within { at + length numbers.now ≤ length self.old.cells_set }
+        requires room { (spec : Spec) × HasRoom spec self.old }
+        ensures free { IsTrue result → (k : ℕ) → k < length numbers.now →
+            slice_get self.old.cells_set (at + k) ≡ Some false }
+        ensures set { IsTrue result → self.new ≡ with_cells self.old at numbers.now }
+        ensures taken { IsFalse result → (k : ℕ) × (k < length numbers.now)
+            × (slice_get self.old.cells_set (at + k) ≡ Some true) }
+        ensures kept { IsFalse result → self.new ≡ self.old }
+    {
+        if !self.are_free(at as usize, numbers.len()) {
+            return false;
+        }
+        self.put_cells(at, numbers);
+        true
+    }
+
+    /// Whether no line has set one of so many cells from this one on.
+    fn are_free(&self, at: usize, count: usize) -> bool
+        requires { at + count ≤ length self.now.cells_set }
+        ensures free { IsTrue result → (k : ℕ) → k < count →
+            slice_get self.now.cells_set (at + k) ≡ Some false }
+        ensures taken { IsFalse result →
+            (k : ℕ) × (k < count) × (slice_get self.now.cells_set (at + k) ≡ Some true) }
+    {
+        for k in 0..count {
+            if self.cells_set.as_slice()[at + k] {
+                return false;
+            }
+        }
+        true
+    }
+
+    /// Sets the cells from this one on.
+    fn put_cells(&mut self, at: u64, numbers: &[u64])
+        requires within { at + length numbers.now ≤ length self.old.cells_set }
+        requires room { (spec : Spec) × HasRoom spec self.old }
+        ensures { self.new ≡ with_cells self.old at numbers.now }
+    {
+        for (k, number) in numbers.iter().enumerate() {
+            self.put_cell(at + k as u64, *number);
+        }
+    }
+
+    /// Sets a cell.
+    fn put_cell(&mut self, at: u64, number: u64)
+        requires within { at < length self.old.cells_set }
+        requires room { (spec : Spec) × HasRoom spec self.old }
+        ensures { self.new ≡ with_cells self.old at (number ∷ []) }
+    {
+        self.state.set_cell(self.lo + at, number);
+        self.cells_set.set(at as usize, true);
     }
 }

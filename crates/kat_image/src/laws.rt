@@ -6,6 +6,7 @@ ghost use Rattle.kat_ast.specs.Spec.{Spec};
 ghost use Rattle.kat_syntax.specs.Machine.{MachineState};
 ghost use Rattle.kat_syntax.specs.Start.{start_of};
 ghost use Rattle.kat_image.specs.Image.{IsImageOf, IsFirstRefused, Lacks, lines_of};
+ghost use Rattle.kat_image.specs.Lines.{LinesSetPlaces};
 
 /// Bytes are an image of at most one state of a specification.
 pub fn one_state()
@@ -22,9 +23,15 @@ pub fn one_refusal()
         IsFirstRefused spec bytes line → IsImageOf spec bytes state → ⊥ }
 {}
 
-/// The empty text is the image of the first state, in which no line has set a register.
+/// The empty text is the image of the first state, in which no line has set a place.
 pub fn no_lines_are_the_start()
     ensures { (spec : Spec) → IsImageOf spec [] (start_of spec) }
+{}
+
+/// What a line sets is there: a register and a value of its type, or cells of the memory and
+/// numbers that fit them.
+pub fn lines_set_places()
+    ensures { LinesSetPlaces }
 {}
 
 /// The lines of a text are the text, joined by newlines, and no line has a newline.

@@ -1,4 +1,4 @@
-//! The image of a machine: the text that gives registers of bits the numbers that they have at the
+//! The image of a machine: the text that gives registers and cells the values that they have at the
 //! start.
 //! `specs/` says which bytes are an image of which state, apart from the reader, which goes over
 //! the bytes once.
@@ -8,7 +8,14 @@ mod fault;
 mod image;
 mod laws;
 mod line;
+mod numbers;
+mod setting;
+mod unread;
+mod value;
 
 pub use fault::ImageError;
 pub use image::read_image;
-pub use laws::{lines_are_the_text, no_lines_are_the_start, one_refusal, one_state};
+pub use laws::{
+    lines_are_the_text, lines_set_places, no_lines_are_the_start, one_refusal, one_state,
+};
+pub use setting::Setting;

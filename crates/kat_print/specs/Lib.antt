@@ -5,3 +5,4 @@ pub mod Statements
 pub mod Terms
 pub mod Assertions
 pub mod Declarations
+pub mod Values

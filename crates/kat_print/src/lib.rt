@@ -12,7 +12,9 @@ mod print;
 mod statements;
 mod terms;
 mod types;
+mod values;
 
 pub use laws::{one_text, reads_back};
 pub use print::print_spec;
 pub use terms::print_term;
+pub use values::{print_value, push_register_line, push_value};

@@ -194,7 +194,7 @@ fn put_member(out: &mut TextBuilder, of: &str, member: &str) -> Result<(), Alloc
 }
 
 /// The name of the type at a position of the table, empty where there is none.
-fn name_of_type(types: &Types, of: u32) -> &str
+pub fn name_of_type(types: &Types, of: u32) -> &str
     ensures { result.now ≡ name_of_type types.now of }
 {
     match types.get(of as usize) {
@@ -206,7 +206,7 @@ fn name_of_type(types: &Types, of: u32) -> &str
 }
 
 /// The name of a member of the enum at a position, empty where there is none.
-fn name_of_member(types: &Types, of: u32, index: u32) -> &str
+pub fn name_of_member(types: &Types, of: u32, index: u32) -> &str
     ensures { result.now ≡ name_of_member types.now of index }
 {
     match types.get(of as usize) {
@@ -219,7 +219,7 @@ fn name_of_member(types: &Types, of: u32, index: u32) -> &str
 }
 
 /// The name of a constructor of the union at a position, empty where there is none.
-fn name_of_ctor(types: &Types, of: u32, ctor: u32) -> &str
+pub fn name_of_ctor(types: &Types, of: u32, ctor: u32) -> &str
     ensures { result.now ≡ name_of_ctor types.now of ctor }
 {
     match types.get(of as usize) {

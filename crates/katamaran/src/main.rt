@@ -4,6 +4,8 @@
 #[cfg(test)]
 mod forms;
 #[cfg(test)]
+mod images;
+#[cfg(test)]
 mod modes;
 #[cfg(test)]
 mod tests;

@@ -137,6 +137,34 @@ fn one_cycle_agrees(
     agrees(alloc, &row)
 }
 
+/// The status of a run of no cycles from an image.
+pub(crate) fn image_status(alloc: Global, spec: &str, image: &str) -> Result<Status, AllocError> {
+    let words = words_of(alloc, "run s i --cycles 0 --calls 1")?;
+    let files = two_files(alloc, spec.as_bytes(), image)?;
+    let mut files = MemoryFiles::new(alloc, files, Vec::new(alloc));
+    let mut out = MemorySink::new(alloc, Vec::new(alloc));
+    Ok(top(alloc, words.as_slice(), &mut files, &mut out))
+}
+
+/// Whether an image is refused with this text.
+pub(crate) fn image_agrees(
+    alloc: Global,
+    spec: &str,
+    image: &str,
+    text: &str,
+) -> Result<bool, AllocError> {
+    let row = Row {
+        words: "run s i --cycles 0 --calls 1",
+        spec: spec.as_bytes(),
+        image,
+        failing_read: 0,
+        failing_write: 0,
+        status: Status::Form,
+        text,
+    };
+    agrees(alloc, &row)
+}
+
 /// Words, and what the program answers to them.
 const RUNS: &[(&str, Status, &str)] = &[
     (

@@ -3,8 +3,8 @@ use Rattle.kat_image.proofs.Reading.{Reads}
 use Rattle.kat_image.proofs.image.read_image.Given as goal
 
 -- the lines before the rest were taken
-abbrev pub invariant-loop-behind : goal.invariant-loop-behind
-invariant-loop-behind l = Reads l.machine l.bytes l.rest l.number l.image
+abbrev pub invariant-loop-image : goal.invariant-loop-image
+invariant-loop-image l = Reads l.machine l.bytes l.rest l.number l.image
 
-abbrev pub decreases-loop-behind : goal.decreases-loop-behind
-decreases-loop-behind l = length l.rest
+abbrev pub decreases-loop-image : goal.decreases-loop-image
+decreases-loop-image l = length l.rest
