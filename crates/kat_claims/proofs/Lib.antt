@@ -2,4 +2,10 @@ mod Joins
 mod Budgets
 mod Layers
 mod Holders
+mod NamesRead
+mod Steps
 mod Machines
+mod Insecure
+mod Counter
+mod Judged
+mod Cuts

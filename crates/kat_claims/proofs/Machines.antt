@@ -17,6 +17,7 @@ use Rattle.kat_ast.specs.declared.decl.Block.{Block}
 use Rattle.kat_ast.specs.declared.decl.DeclForm.{DeclForm}
 use Rattle.kat_ast.specs.declared.decl.Phase.{Phase}
 use Rattle.kat_ast.specs.declared.decl.Phase.TheVariants as phase
+use Rattle.kat_ast.specs.declared.decl.RegisterKind.TheVariants as register
 use Rattle.kat_ast.specs.declared.expr.Expr.{Expr}
 use Rattle.kat_ast.specs.declared.expr.Expr.TheOpen as expr
 use Rattle.kat_ast.specs.declared.expr.Expr.TheFolds.{map-Expr, fold-roll-Expr}
@@ -31,7 +32,7 @@ use Rattle.kat_syntax.specs.Fragments.{nothing, whole}
 use Rattle.kat_syntax.specs.Machine.{MachineState, Progress}
 use Rattle.kat_syntax.specs.Meaning.{Calls, Part, part_of, part_of_stm}
 use Rattle.kat_syntax.specs.Outcomes.{at_site, inside, place_in}
-use Rattle.kat_syntax.specs.Phases.{Boots, IsCodeThere, IsGuardedAt, IsGuardedBy, in_dispatch, phase_of, with_kept}
+use Rattle.kat_syntax.specs.Phases.{Boots, IsCodeThere, IsGuardedAt, IsGuardedBy, block_of, in_dispatch, phase_of, with_kept}
 use Rattle.kat_syntax.specs.Holds.{predicates_of}
 use Rattle.kat_syntax.specs.OutsideWrites.{poked, poked_at, target_in}
 use Rattle.kat_syntax.specs.declared.places.OutsidePlace.{OutsidePlace}
@@ -39,37 +40,15 @@ use Rattle.kat_syntax.specs.declared.places.Poke.{Poke}
 use Rattle.kat_syntax.specs.Run.{Cycle, Ended, Event, FailedIn, OutIn, OutsideWrite, Run, after_cycle, run_from, run_of, state_behind, with_boundary}
 use Rattle.kat_syntax.specs.Secure.{IsAllowedChange, IsBlockRun, IsNoFailure, IsSecure, IsSecureRun, Left, between, exit_of, is_inside, one_later}
 use Rattle.kat_syntax.specs.States.{IsState}
-use Rattle.kat_claims.specs.Machines.{anything, block, failing, fails, in_block, machine, mode, no_value, rests, resting, yes}
+use Rattle.kat_claims.specs.Machines.{anything, block, failing, fails, no_value, resting, state_of, yes}
 use Rattle.kat_syntax.specs.Tables.{Name}
-use Rattle.kat_claims.specs.Security.{MachinesAreJudged}
-use Rattle.kat_claims.proofs.Layers.{closed}
-
--- one layer of an expression
-expr_layer :
-    (env : Environment) (layer : expr.Expr-F Expr) →
-    value_of_expr env (roll-Expr layer)
-    ≡ expr_value env (map-Expr Expr (Option Value) (value_of_expr env) layer)
-expr_layer env layer = fold-roll-Expr (Option Value) (expr_value env) layer
-
--- one layer of a statement
-stm_layer :
-    (decls : List DeclForm) (calls : Calls) (layer : stm.Stm-F Stm) →
-    part_of_stm decls calls (roll-Stm layer)
-    ≡ part_of decls calls (map-Stm Stm Part (part_of_stm decls calls) layer)
-stm_layer decls calls layer = fold-roll-Stm Part (part_of decls calls) layer
+use Rattle.kat_claims.proofs.Steps.{boots_there, ends_as, expr_layer, state_there, stm_layer}
 
 -- `unit` has a value
 unit_value :
     (decls : List DeclForm) →
     value_of_expr (record { decls = decls; reads = Nothing; locals = [] }) no_value ≡ Some value.Unit
 unit_value decls = expr_layer (record { decls = decls; reads = Nothing; locals = [] }) expr.Unit
-
--- how a cycle ends whose body does this, with so many calls left in it
-abbrev ends_as : List DeclForm → MachineState → ℕ → Part → CycleOutcome
-ends_as decls state left part =
-    as_cycle (stuck_place decls)
-    (at_site (place_in 2)
-    (inside 5 (part.does [] (record { state = state; left = left; stores = [] }))))
 
 -- a cycle of the machine that rests leaves the state as it is
 rests_on :
@@ -89,59 +68,15 @@ fails_there state left =
     ap (ends_as failing.decls state left)
     (stm_layer failing.decls (call_of failing.decls left) stm.Fail)
 
--- the state in which the block begins
-abbrev booted : MachineState
-booted = record { registers = value.Bool true ∷ value.Bool false ∷ []; lo = 0; cells = [] }
-
--- truths are of their type
-truth_has_type : (types : List TypeDecl) (b : Bool) → has_type types (value.Bool b) ty.Bool ≡ true
-truth_has_type types b =
-    ap (λ (v : Value). has_type types v ty.Bool) (sym (rolls-Bool b))
-    ∙ ap (λ (test : Ty → Bool). test ty.Bool)
-    (fold-roll-Value (Ty → Bool) (layer_has_type types) (layer.Bool b))
-
--- it is a state of the machine, whatever its step does
-booted_is_state : (body : Stm) → IsState (machine phase.Untrusted body) booted
-booted_is_state body = record {
-  registers = simp (truth_has_type [] true, truth_has_type [] false);
-  first = refl;
-  count = refl;
-  fitting = tt;
-}
-
--- its phase is the block
-booted_phase :
-    (body : Stm) →
-    phase_of (machine phase.Untrusted body) booted ≡ Some (phase.Block block)
-booted_phase body =
-    simp (expr_layer (in_dispatch (machine phase.Untrusted body) booted) (expr.Register mode))
-
--- it boots
-booted_boots : (body : Stm) → Boots (machine phase.Untrusted body) booted
-booted_boots body = record {
-  name = block;
-  declared = refl;
-  phase = booted_phase body;
-  guarded = subst (IsGuardedAt (machine phase.Untrusted body) booted) (sym (booted_phase body))
-      (record {
-        code = tt;
-        owned = nothing;
-        rest = whole booted;
-        part = record { registers = λ at. refl; cells = λ index. refl };
-        without_kept = (λ at e. refl, tt);
-        without_code = tt;
-        holds = closed (predicates_of (machine phase.Untrusted body)) (assertion.Star [])
-            (with_kept (machine phase.Untrusted body) booted) nothing refl;
-      });
-}
-
 -- the machine that fails is not secure
-failing_fails : IsSecure failing → ⊥
+pub failing_fails : IsSecure failing → ⊥
 failing_fails secure =
-    subst (λ (c : CycleOutcome). IsNoFailure (with_boundary booted (after_cycle 1 c
+    subst (λ (c : CycleOutcome). IsNoFailure (with_boundary (state_of true false) (after_cycle 1 c
     (λ next. run_from failing 1 1 next []))).end)
-    (fails_there booted 0)
-    (secure booted 1 (Cycle ∷ []) (booted_is_state fails) (booted_boots fails) tt (refl, tt)).never_fails
+    (fails_there (state_of true false) 0)
+    (secure (state_of true false) 1 (Cycle ∷ [])
+    (state_there register.Protected [] phase.Untrusted yes fails true false)
+    (boots_there register.Protected [] phase.Untrusted yes fails false) tt (refl, tt)).never_fails
 
 -- no outside places
 abbrev no_places : List OutsidePlace
@@ -208,10 +143,15 @@ not_inside p is = ap is_inside is
 abbrev the_block : Block
 the_block = record { name = block; entry = anything; within = 1; change = yes }
 
--- the block that is found is that
-found_block : (b : Bool) (found : Block) → (if b then Some the_block else None) ≡ Some found → found ≡ the_block
-found_block true found e = sym (ap (λ o. unwrap_or o the_block) e)
-found_block false found e = absurd (cc)
+-- the name of the block that a phase is
+abbrev name_of_phase : Option Phase → Name
+name_of_phase (Some (phase.Block x)) = x
+name_of_phase _ = block
+
+-- the block of its name is that
+found_block : (x : Name) → x ≡ block → block_of resting.decls x ≡ Some the_block
+found_block x same =
+    subst (λ (y : Name). block_of resting.decls y ≡ Some the_block) (sym same) refl
 
 -- its change is always allowed
 all_allowed : (entry exit : MachineState) → IsAllowedChange resting.decls the_block entry exit
@@ -236,7 +176,7 @@ no_code [] = tt
 no_code (state ∷ states) = (tt, no_code states)
 
 -- the machine that rests is secure
-resting_secure : IsSecure resting
+pub resting_secure : IsSecure resting
 resting_secure start calls events is_state boots is_list declared =
     let at_start = boots.phase in
     let rests = resting_run calls 0 start events in
@@ -247,12 +187,14 @@ resting_secure start calls events is_state boots is_list declared =
           let all = subst (AllByRecursion (λ (s : MachineState). s ≡ start)) cut rests.all in
           let here = of_split (λ (s : MachineState). s ≡ start) before (next ∷ after) state all in
           not_untrusted _ (start_phase start state block_phase here.0) untrusted;
-      blocks_end = λ before after state cut x found at_block declared_block.
+      blocks_end = λ before after state cut x at_block.
           let all = subst (AllByRecursion (λ (s : MachineState). s ≡ start)) cut rests.all in
           let here = of_split (λ (s : MachineState). s ≡ start) before after state all in
-          subst (λ (b : Block). IsBlockRun resting.decls b state (exit_of resting.decls after))
-          (sym (found_block (bytes_eq block x) found declared_block))
-          (block_ends start state after block_phase here.1);
+          let same = sym at_block ∙ start_phase start state block_phase here.0 in (
+            the_block,
+            found_block x (ap name_of_phase same),
+            block_ends start state after block_phase here.1,
+          );
       inside_behind_block = λ before after state cut inside.
           let all = subst (AllByRecursion (λ (s : MachineState). s ≡ start)) cut rests.all in
           let here = of_split (λ (s : MachineState). s ≡ start) before after state all in
@@ -262,7 +204,3 @@ resting_secure start calls events is_state boots is_list declared =
   where
     same_name : (name : Name) → Some block ≡ Some name → name ≡ block
     same_name name e = sym (ap (λ o. unwrap_or o block) e)
-
--- a step that does nothing is secure, and one that fails is not
-pub machines_are_judged : MachinesAreJudged
-machines_are_judged = record { resting_is_secure = resting_secure; failing_is_not = failing_fails }

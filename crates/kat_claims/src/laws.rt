@@ -3,6 +3,8 @@
 ghost use Rattle.kat_claims.specs.Assertions.{HoldersAreFragments};
 ghost use Rattle.kat_claims.specs.Budgets.{FewerCallsMeet};
 ghost use Rattle.kat_claims.specs.Fragments.{JoinsAreUnions};
+ghost use Rattle.kat_claims.specs.Names.{OnlyNamesReadCount};
+ghost use Rattle.kat_claims.specs.Runs.{RunsGoByEvents};
 ghost use Rattle.kat_claims.specs.Security.{MachinesAreJudged};
 
 use kat_syntax::calls_are_spent;
@@ -27,7 +29,21 @@ pub fn holders_have_places()
     ensures { HoldersAreFragments }
 {}
 
-/// Of two small machines, one whose step does nothing is secure, and one whose step fails is not.
+/// What an assertion says goes by the values of the names that it reads, and by no other name.
+pub fn only_names_read_count()
+    ensures { OnlyNamesReadCount }
+{}
+
+/// A run that ended in a cycle is the same with more events, and one whose events are cut off at a
+/// cycle keeps what a run of a secure specification does.
+pub fn runs_go_by_events()
+    ensures { RunsGoByEvents }
+{}
+
+/// Of small machines, one whose step does nothing is secure. Those are not, from a state that boots,
+/// that break a clause each: a step that fails, an untrusted cycle that writes a protected register,
+/// one that leads inside, a block that stays inside past its cycles, one whose exit breaks its
+/// change. A machine of which no state boots is secure, which says nothing of it.
 pub fn security_says_what_it_should()
     ensures { MachinesAreJudged }
 {}

@@ -2,7 +2,6 @@
 use Rattle.std.specs.Prelude.{◌≡◌, ◌&&◌, ◌-◌, ℕ, Bool, true, false, nat_le, nat_lt, if◌then◌else◌, List, [], ◌∷◌, ◌++◌, reverse, length, IsSome, Option, None, Some, slice_get, unwrap_or}
 use Rattle.std.specs.Option.{option_map}
 use Rattle.std.specs.Str.{bytes_eq}
-use Rattle.kat_value.specs.declared.types.Ty.{Ty}
 use Rattle.kat_value.specs.declared.value.Value.{Value}
 use Rattle.kat_value.specs.declared.value.Value.TheVariants.{Bool as Truth, Bits as Number}
 use Rattle.kat_value.specs.Typing.{HasType}
@@ -15,8 +14,9 @@ use Rattle.kat_ast.specs.declared.expr.Expr.{Expr}
 use Rattle.kat_ast.specs.declared.type_name.Param.{Param}
 use Rattle.kat_ast.specs.declared.type_name.TypeName.{TypeName}
 use Rattle.kat_syntax.specs.Cycle.{bound}
-use Rattle.kat_syntax.specs.Evaluation.{Environment, Locals, Reads, Nothing, value_of_expr, values_of_exprs}
+use Rattle.kat_syntax.specs.Evaluation.{Environment, Locals, value_of_expr, values_of_exprs}
 use Rattle.kat_syntax.specs.Fragments.{Fragment, IsFragment, IsOfMemory, IsOfType, Join, nothing, one_cell, one_register}
+use Rattle.kat_syntax.specs.Meaning.{plainly}
 use Rattle.kat_syntax.specs.Memories.{Memory}
 use Rattle.kat_syntax.specs.States.{cell_width, memory_of, register_position, register_types}
 use Rattle.kat_syntax.specs.Tables.{Name}
@@ -70,18 +70,17 @@ is_true _ = false
 
 -- whether the guard of a region is true at an index, its parameters having these values
 abbrev pub guards : List DeclForm → RegionDecl → Locals → ℕ → Bool
-guards decls region locals i = is_true (value_of_expr (record {
-  decls = decls;
-  reads = Nothing;
-  locals = (region.index, Number (index_width decls) i) ∷ locals;
-}) region.guard)
+guards decls region locals i =
+    is_true (value_of_expr (plainly decls ((region.index, Number (index_width decls) i) ∷ locals))
+    region.guard)
 
 -- whether an index is one of a memory, where there is one
 abbrev pub is_index : Option Memory → ℕ → Bool
 is_index None i = false
 is_index (Some memory) i = nat_le memory.lo i && nat_lt i memory.hi
 
--- the places of a fragment are exactly the cells of the memory where this is true, with any contents
+-- the places of a fragment are exactly the cells of the memory where this is true, with any
+-- contents
 pub record HasCellsWhere (decls : List DeclForm) (guard : ℕ → Bool) (f : Fragment) : Type 0 where
   pub fits : IsFragment decls f
   pub registers : (at : ℕ) → f.registers at ≡ None
@@ -136,8 +135,7 @@ abbrev pub HoldsDefined :
     List DeclForm → Predicates → List Param → Assertion → List Value → Fragment → Type 0
 HoldsDefined decls predicates params definition values f =
     (locals : Locals) × (bound params values ≡ Some locals)
-    × HoldsBy predicates definition
-    (record { decls = decls; reads = Nothing; locals = locals }) f
+    × HoldsBy predicates definition (plainly decls locals) f
 
 -- what the predicates among these declarations say, the last of them first: in the definition of
 -- one stand those before it alone

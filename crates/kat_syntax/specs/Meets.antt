@@ -1,6 +1,5 @@
 -- What contracts and lemmas claim.
-use Rattle.std.specs.Prelude.{◌≡◌, ℕ, List, [], ◌∷◌, ◌++◌, Option, Some, IsTrue}
-use Rattle.kat_value.specs.declared.types.Ty.{Ty}
+use Rattle.std.specs.Prelude.{◌≡◌, ℕ, List, [], ◌∷◌, ◌++◌, Some}
 use Rattle.kat_value.specs.declared.value.Value.{Value}
 use Rattle.kat_ast.specs.declared.assertion.Assertion.{Assertion}
 use Rattle.kat_ast.specs.declared.decl.DeclForm.{DeclForm}
@@ -8,10 +7,11 @@ use Rattle.kat_ast.specs.declared.place.Place.{Place}
 use Rattle.kat_ast.specs.declared.type_name.Param.{Param}
 use Rattle.kat_ast.specs.Spec.{Spec}
 use Rattle.kat_syntax.specs.Cycle.{body_of, bound, call_of, progress_at}
-use Rattle.kat_syntax.specs.Evaluation.{Environment, Locals, Nothing}
+use Rattle.kat_syntax.specs.Evaluation.{Environment, Locals}
 use Rattle.kat_syntax.specs.Fragments.{Fragment, Join, IsFragment, whole}
 use Rattle.kat_syntax.specs.Holds.{Holds, IsOfWritten}
-use Rattle.kat_syntax.specs.Machine.{MachineState, Progress}
+use Rattle.kat_syntax.specs.Machine.{MachineState}
+use Rattle.kat_syntax.specs.Meaning.{plainly}
 use Rattle.kat_syntax.specs.Outcomes.{Outcome, Done, Out, Fail, Stuck}
 use Rattle.kat_syntax.specs.States.{IsState}
 use Rattle.kat_syntax.specs.Tables.{Name, Function}
@@ -32,16 +32,16 @@ AreArguments decls (param ∷ params) [] = ⊥
 AreArguments decls (param ∷ params) (v ∷ vs) =
     IsOfWritten decls param.ty v × AreArguments decls params vs
 
--- where an assertion of a contract or a lemma is read, the names having these values
-abbrev pub among : List DeclForm → Locals → Environment
-among decls locals = record { decls = decls; reads = Nothing; locals = locals }
+-- a part of a fragment holds an assertion
+abbrev pub HasPart : Assertion → Environment → Fragment → Type 0
+HasPart assertion env owned =
+    (f : Fragment) × (left : Fragment) × Join owned f left × Holds assertion env f
 
 -- a fragment of the state that shares no place with the rest holds an assertion, and the places of
 -- the rest are as they were
 abbrev pub LeavesRest : Assertion → Environment → Fragment → MachineState → Type 0
 LeavesRest post env rest state =
-    (owned : Fragment) × (f : Fragment) × (left : Fragment)
-    × Join (whole state) owned rest × Join owned f left × Holds post env f
+    (owned : Fragment) × Join (whole state) owned rest × HasPart post env owned
 
 -- it does not fail and is not stuck, and where it is done this holds
 abbrev pub Ends : {S : Type 0} → Outcome S → (Value → MachineState → Type 0) → Type 0
@@ -59,7 +59,7 @@ body_with decls n function args state =
 abbrev pub LeavesPost :
     Spec → ContractOf → Locals → Fragment → Value → MachineState → Type 0
 LeavesPost spec contract locals rest result next =
-    LeavesRest contract.post (among spec.decls ((contract.result, result) ∷ locals)) rest next
+    LeavesRest contract.post (plainly spec.decls ((contract.result, result) ∷ locals)) rest next
 
 -- a function meets its contract with n calls: for all values of its parameters and of the names,
 -- each state, each fragment of it that holds the precondition, and the rest of the state
@@ -72,7 +72,7 @@ MeetsContract spec contract n =
     bound contract.names values ≡ Some names →
     (state : MachineState) (owned rest : Fragment) →
     IsState spec.decls state → Join (whole state) owned rest →
-    Holds contract.pre (among spec.decls (names ++ params)) owned →
+    Holds contract.pre (plainly spec.decls (names ++ params)) owned →
     Ends (body_with spec.decls n contract.function args state)
     (LeavesPost spec contract (names ++ params) rest)
 
@@ -92,6 +92,5 @@ LemmaHolds spec lemma_of =
     bound lemma_of.params args ≡ Some params →
     bound lemma_of.names values ≡ Some names →
     (owned : Fragment) → IsFragment spec.decls owned →
-    Holds lemma_of.pre (among spec.decls (names ++ params)) owned →
-    (f : Fragment) × (left : Fragment) × Join owned f left
-    × Holds lemma_of.post (among spec.decls (names ++ params)) f
+    Holds lemma_of.pre (plainly spec.decls (names ++ params)) owned →
+    HasPart lemma_of.post (plainly spec.decls (names ++ params)) owned

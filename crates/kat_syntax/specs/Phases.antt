@@ -1,8 +1,7 @@
 -- What a cycle from a state is, and what is guarded there.
-use Rattle.std.specs.Prelude.{◌≡◌, ◌+◌, ◌<◌, ℕ, Bool, true, false, if◌then◌else◌, List, [], ◌∷◌, length, Option, None, Some, option_and_then, slice_get}
+use Rattle.std.specs.Prelude.{◌≡◌, ◌+◌, ℕ, if◌then◌else◌, List, [], ◌∷◌, Option, None, Some}
 use Rattle.std.specs.Option.{option_map}
 use Rattle.std.specs.Str.{bytes_eq}
-use Rattle.kat_value.specs.declared.value.Value.{Value}
 use Rattle.kat_ast.specs.declared.assertion.Assertion.{Assertion}
 use Rattle.kat_ast.specs.declared.decl.Block.{Block}
 use Rattle.kat_ast.specs.declared.decl.DeclForm.{DeclForm}
@@ -10,8 +9,7 @@ use Rattle.kat_ast.specs.declared.decl.DeclForm.TheVariants as d
 use Rattle.kat_ast.specs.declared.decl.Phase.{Phase}
 use Rattle.kat_ast.specs.declared.decl.Phase.TheVariants as phase
 use Rattle.kat_ast.specs.declared.decl.When.{When}
-use Rattle.kat_ast.specs.declared.expr.Expr.{Expr}
-use Rattle.kat_syntax.specs.Evaluation.{Environment, Reads, Registers, KeptValues, value_of_expr}
+use Rattle.kat_syntax.specs.Evaluation.{Environment, Registers, KeptValues, value_of_expr}
 use Rattle.kat_syntax.specs.Fragments.{Fragment, Join, whole}
 use Rattle.kat_syntax.specs.Holds.{Holds, is_true}
 use Rattle.kat_syntax.specs.Machine.{MachineState}
@@ -97,7 +95,8 @@ with_kept decls state =
 
 -- a state is guarded by an assertion: every code cell has its stated value, and a fragment of the
 -- state without kept places and code cells holds the assertion with the state's kept values
-pub record IsGuardedBy (decls : List DeclForm) (state : MachineState) (guard : Assertion) : Type 0 where
+pub record IsGuardedBy
+    (decls : List DeclForm) (state : MachineState) (guard : Assertion) : Type 0 where
   pub code : IsCodeThere decls state
   pub owned : Fragment
   pub rest : Fragment

@@ -1,5 +1,5 @@
 -- When a specification is secure: what every run from a state that boots does.
-use Rattle.std.specs.Prelude.{◌≡◌, ◌≤◌, ◌<◌, ℕ, zero, suc, Bool, true, false, if◌then◌else◌, List, [], ◌∷◌, ◌++◌, length, Option, None, Some, IsTrue}
+use Rattle.std.specs.Prelude.{◌≡◌, ◌≤◌, ◌<◌, ℕ, suc, Bool, true, false, if◌then◌else◌, List, [], ◌∷◌, ◌++◌, Option, Some, IsTrue}
 use Rattle.std.specs.List.{AllByRecursion}
 use Rattle.kat_value.specs.declared.value.Value.TheVariants.{Bool as Truth}
 use Rattle.kat_ast.specs.declared.decl.Block.{Block}
@@ -14,7 +14,7 @@ use Rattle.kat_syntax.specs.Run.{Event, IsEventList, Run, RunEnd, Ended, OutIn, 
 use Rattle.kat_syntax.specs.States.{IsState, kept_of}
 use Rattle.kat_syntax.specs.Tables.{Name}
 
--- a phase is within the run of a block
+-- whether a phase is `inside`
 abbrev pub is_inside : Option Phase → Bool
 is_inside (Some phase.Inside) = true
 is_inside _ = false
@@ -28,7 +28,8 @@ IsNoFailure (FailedIn cycle place) = ⊥
 -- where the change of a block is read: the kept values at its entry and behind it
 abbrev pub between : List DeclForm → MachineState → MachineState → Environment
 between decls entry exit =
-    record { decls = decls; reads = BothEnds (kept_of decls entry) (kept_of decls exit); locals = [] }
+    let ends = BothEnds (kept_of decls entry) (kept_of decls exit) in
+    record { decls = decls; reads = ends; locals = [] }
 
 -- the change of a block is true of the kept values at its entry and its exit
 abbrev pub IsAllowedChange : List DeclForm → Block → MachineState → MachineState → Type 0
@@ -78,12 +79,13 @@ KeepsWhereUntrusted decls state next =
     phase_of decls state ≡ Some phase.Untrusted →
     (is_inside (phase_of decls next) ≡ false) × (kept_of decls next ≡ kept_of decls state)
 
--- from the entry of a block on, its run is within its cycles and its change
+-- from the entry of a block on, which is declared, its run is within its cycles and its change
 abbrev pub RunsWhereBlock :
     List DeclForm → List MachineState → MachineState → List MachineState → Type 0
 RunsWhereBlock decls before state after =
-    (x : Name) (block : Block) → phase_of decls state ≡ Some (phase.Block x) →
-    block_of decls x ≡ Some block → IsBlockRun decls block state (exit_of decls after)
+    (x : Name) → phase_of decls state ≡ Some (phase.Block x) →
+    (block : Block) × (block_of decls x ≡ Some block)
+    × IsBlockRun decls block state (exit_of decls after)
 
 -- the phase of a state is a block
 abbrev pub IsBlock : List DeclForm → MachineState → Type 0

@@ -48,6 +48,13 @@ impl<T: Copy + Drop> Named<T> {
         }
     }
 
+    /// Makes room for so many more names.
+    pub fn reserve(&mut self, more: usize) -> Result<(), AllocError>
+        ensures { self.new ≡ self.old }
+    {
+        self.names.reserve(more)
+    }
+
     /// Adds a name with its item, where the name is not there already. 2^32 names are taken for
     /// more than memory holds.
     pub fn add(&mut self, name: &Text, item: T) -> Result<(), AllocError>

@@ -207,6 +207,7 @@ fn param_positions(alloc: Global, params: &[Param]) -> Result<Named<u32>, AllocE
         return Err(AllocError);
     }
     let mut named = Named::empty(alloc);
+    named.reserve(params.len())?;
     for (position, param) in params.iter().enumerate() {
         named.add(&param.name, position as u32)?;
     }
@@ -269,6 +270,7 @@ fn text_positions(alloc: Global, names: &[Text]) -> Result<Named<u32>, AllocErro
         return Err(AllocError);
     }
     let mut named = Named::empty(alloc);
+    named.reserve(names.len())?;
     for (position, name) in names.iter().enumerate() {
         named.add(name, position as u32)?;
     }
@@ -283,6 +285,7 @@ fn field_positions(alloc: Global, fields: &[Field]) -> Result<Named<u32>, AllocE
         return Err(AllocError);
     }
     let mut named = Named::empty(alloc);
+    named.reserve(fields.len())?;
     for (position, field) in fields.iter().enumerate() {
         named.add(&field.name, position as u32)?;
     }

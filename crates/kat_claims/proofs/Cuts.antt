@@ -1,0 +1,289 @@
+-- Runs over fewer events, and over more of them.
+use Rattle.std.proofs.Common.{arith, ◌≡◌, ◌≢◌, ◌∙◌, ℕ, ◌+◌, zero, suc, Bool, true, false, List, [], ◌∷◌, ◌++◌, Option, Some, refl, sym, ap, subst, if◌then◌else◌}
+use Rattle.std.specs.Prelude.{IsTrue, ◌≤◌, ◌<◌}
+use Rattle.std.specs.List.{AllByRecursion}
+use Rattle.kat_value.specs.declared.value.Value.{Value}
+use Rattle.kat_value.specs.declared.value.Value.TheVariants.{Bool as Truth}
+use Rattle.kat_ast.specs.Spec.{Spec}
+use Rattle.kat_ast.specs.declared.decl.Block.{Block}
+use Rattle.kat_ast.specs.declared.decl.DeclForm.{DeclForm}
+use Rattle.kat_ast.specs.declared.decl.Phase.{Phase}
+use Rattle.kat_ast.specs.declared.decl.Phase.TheVariants as phase
+use Rattle.kat_syntax.specs.Cycle.{CycleOutcome, Completed, OutOfCalls, FailedAt, cycle_of}
+use Rattle.kat_syntax.specs.Evaluation.{BothEnds, value_of_expr}
+use Rattle.kat_syntax.specs.Machine.{MachineState, Progress}
+use Rattle.kat_syntax.specs.OutsideWrites.{poked}
+use Rattle.kat_syntax.specs.declared.places.Poke.{Poke}
+use Rattle.kat_syntax.specs.Phases.{IsCodeThere, phase_of}
+use Rattle.kat_syntax.specs.Run.{Cycle, Ended, Event, IsEventList, OutIn, FailedIn, OutsideWrite, Run, after_cycle, run_from, run_of, state_behind, with_boundary}
+use Rattle.kat_syntax.specs.Secure.{EachStep, Exit, InsideBehindBlock, IsAllowedChange, IsBlock, IsBlockRun, IsNoFailure, IsSecureRun, IsWithinBlock, KeepsWhereUntrusted, Left, RunsWhereBlock, Stays, between, exit_of, is_inside, one_later}
+use Rattle.kat_syntax.specs.States.{kept_of}
+use Rattle.kat_syntax.specs.Tables.{Name}
+use Rattle.kat_claims.specs.Runs.{RunsGoByEvents}
+
+-- two states are of one phase and have one list of kept values, and the first has the code cells
+-- where the second has
+pub record LooksAs (decls : List DeclForm) (s t : MachineState) : Type 0 where
+  pub phase : phase_of decls s ≡ phase_of decls t
+  pub kept : kept_of decls s ≡ kept_of decls t
+  pub code : IsCodeThere decls t → IsCodeThere decls s
+
+module _ (decls : List DeclForm) where
+  -- a state looks as itself
+  pub same_look : (s : MachineState) → LooksAs decls s s
+  same_look s = record { phase = refl; kept = refl; code = λ there. there }
+
+  -- lists of states that look alike, place by place
+  abbrev Alike : List MachineState → List MachineState → Type 0
+  Alike [] [] = Unit {0}
+  Alike [] (t ∷ ts) = ⊥
+  Alike (s ∷ ss) [] = ⊥
+  Alike (s ∷ ss) (t ∷ ts) = LooksAs decls s t × Alike ss ts
+
+  -- the first states of a list look so
+  abbrev pub Begins : List MachineState → List MachineState → Type 0
+  Begins [] ts = Unit {0}
+  Begins (s ∷ ss) [] = ⊥
+  Begins (s ∷ ss) (t ∷ ts) = LooksAs decls s t × Begins ss ts
+
+  -- the place in the longer list that a place of the shorter one has
+  record Found (before : List MachineState) (s : MachineState) (after long : List MachineState) :
+      Type 0 where
+    earlier : List MachineState
+    here : MachineState
+    later : List MachineState
+    is : long ≡ earlier ++ here ∷ later
+    alike : Alike before earlier
+    looks : LooksAs decls s here
+    begins : Begins after later
+
+  found :
+      (before : List MachineState) (s : MachineState) (after long : List MachineState) →
+      Begins (before ++ s ∷ after) long → Found before s after long
+  found [] s after [] begins = absurd begins
+  found [] s after (t ∷ ts) begins = record {
+    earlier = [];
+    here = t;
+    later = ts;
+    is = refl;
+    alike = tt;
+    looks = begins.0;
+    begins = begins.1;
+  }
+  found (x ∷ before) s after [] begins = absurd begins
+  found (x ∷ before) s after (t ∷ ts) begins =
+      let more = found before s after ts begins.1 in
+      record {
+        earlier = t ∷ more.earlier;
+        here = more.here;
+        later = more.later;
+        is = ap (λ l. t ∷ l) more.is;
+        alike = (begins.0, more.alike);
+        looks = more.looks;
+        begins = more.begins;
+      }
+
+  -- untrusted cycles
+  untrusted_cut :
+      (s next t : MachineState) (later rest : List MachineState) (earlier long : List MachineState) →
+      LooksAs decls s t → Begins (next ∷ rest) later → long ≡ earlier ++ t ∷ later →
+      EachStep (KeepsWhereUntrusted decls) long → KeepsWhereUntrusted decls s next
+  untrusted_cut s next t [] rest earlier long looks begins is each at = absurd begins
+  untrusted_cut s next t (u ∷ later) rest earlier long looks begins is each at =
+      let keeps = each earlier later t u is (sym looks.phase ∙ at) in
+      (ap is_inside begins.0.phase ∙ keeps.0, begins.0.kept ∙ keeps.1 ∙ sym looks.kept)
+
+  -- how the exit in the shorter list stands to that in the longer one
+  abbrev ExitCut : Exit → Exit → Type 0
+  ExitCut (Left y c) (Left z d) = (c ≡ d) × LooksAs decls y z
+  ExitCut (Left y c) (Stays d) = ⊥
+  ExitCut (Stays c) (Left z d) = c < d
+  ExitCut (Stays c) (Stays d) = c ≤ d
+
+  later_cut : (x y : Exit) → ExitCut x y → ExitCut (one_later x) (one_later y)
+  later_cut (Left y c) (Left z d) cut = (ap suc cut.0, cut.1)
+  later_cut (Left y c) (Stays d) cut = absurd cut
+  later_cut (Stays c) (Left z d) cut = omega (arith, cut)
+  later_cut (Stays c) (Stays d) cut = omega (arith, cut)
+
+  -- with none behind, none is left
+  none_later : (x : Exit) → ExitCut (Stays 0) (one_later x)
+  none_later (Left z d) = omega arith
+  none_later (Stays d) = omega arith
+
+  none_cut : (later : List MachineState) → ExitCut (Stays 0) (exit_of decls later)
+  none_cut [] = omega arith
+  none_cut (t ∷ ts) =
+      elim (is_inside (phase_of decls t)) as
+      (λ b. ExitCut (Stays 0) (if b then one_later (exit_of decls ts) else Left t 1))
+      [ true ↦ none_later (exit_of decls ts) | false ↦ omega arith ]
+
+  exits_cut :
+      (after later : List MachineState) → Begins after later →
+      ExitCut (exit_of decls after) (exit_of decls later)
+  exits_cut [] later begins = none_cut later
+  exits_cut (s ∷ after) [] begins = absurd begins
+  exits_cut (s ∷ after) (t ∷ later) begins =
+      subst (λ p. ExitCut (if is_inside p then one_later (exit_of decls after) else Left s 1)
+      (exit_of decls (t ∷ later))) (sym begins.0.phase)
+      (elim (is_inside (phase_of decls t)) as
+      (λ b. ExitCut (if b then one_later (exit_of decls after) else Left s 1)
+      (if b then one_later (exit_of decls later) else Left t 1)) [
+        | true ↦ later_cut (exit_of decls after) (exit_of decls later) (exits_cut after later begins.1)
+        | false ↦ (refl, begins.0)
+      ])
+
+  -- a block's run
+  block_cut :
+      (block : Block) (s t : MachineState) (x y : Exit) → LooksAs decls s t → ExitCut x y →
+      IsBlockRun decls block t y → IsBlockRun decls block s x
+  block_cut block s t (Left y c) (Left z d) looks cut run = (
+    subst (λ n. n ≤ block.within) (sym cut.0) run.0,
+    subst (λ kept. value_of_expr (record { decls = decls; reads = BothEnds kept (kept_of decls y); locals = [] })
+        block.change ≡ Some (Truth true)) (sym looks.kept)
+        (subst (λ kept. value_of_expr (record { decls = decls; reads = BothEnds (kept_of decls t) kept; locals = [] })
+        block.change ≡ Some (Truth true)) (sym cut.1.kept) run.1),
+  )
+  block_cut block s t (Left y c) (Stays d) looks cut run = absurd cut
+  block_cut block s t (Stays c) (Left z d) looks cut run =
+      let less : d ≤ block.within = run.0 in omega (arith, cut, less)
+  block_cut block s t (Stays c) (Stays d) looks cut run = omega (arith, cut, run)
+
+  -- boundaries that are inside
+  abbrev Inside : MachineState → Type 0
+  Inside state = IsTrue (is_inside (phase_of decls state))
+
+  inside_cut :
+      (before inside : List MachineState) → Alike before inside →
+      AllByRecursion Inside inside → AllByRecursion Inside before
+  inside_cut [] [] alike all = tt
+  inside_cut [] (t ∷ ts) alike all = absurd alike
+  inside_cut (s ∷ before) [] alike all = absurd alike
+  inside_cut (s ∷ before) (t ∷ ts) alike all = (
+    subst (λ p. IsTrue (is_inside p)) (sym alike.0.phase) all.0,
+    inside_cut before ts alike.1 all.1,
+  )
+
+  -- behind a block
+  within_cut :
+      (before earlier : List MachineState) (entry : MachineState) (inside : List MachineState) →
+      Alike before (earlier ++ entry ∷ inside) → IsBlock decls entry →
+      AllByRecursion Inside inside → IsWithinBlock decls before
+  within_cut [] [] entry inside alike is all = absurd alike
+  within_cut [] (e ∷ earlier) entry inside alike is all = absurd alike
+  within_cut (s ∷ before) [] entry inside alike is all =
+      ([], s, before, refl, (is.0, alike.0.phase ∙ is.1), inside_cut before inside alike.1 all)
+  within_cut (s ∷ before) (e ∷ earlier) entry inside alike is all =
+      let more = within_cut before earlier entry inside alike.1 is all in
+      (s ∷ more.0, more.1, more.2, ap (λ l. s ∷ l) more.3, more.4, more.5)
+
+  -- code cells
+  code_cut :
+      (short long : List MachineState) → Begins short long →
+      AllByRecursion (IsCodeThere decls) long → AllByRecursion (IsCodeThere decls) short
+  code_cut [] long begins all = tt
+  code_cut (s ∷ short) [] begins all = absurd begins
+  code_cut (s ∷ short) (t ∷ long) begins all =
+      (begins.0.code all.0, code_cut short long begins.1 all.1)
+
+  -- a run is the beginning of another, as far as security sees
+  pub record IsCut (long short : Run) : Type 0 where
+    pub begins : Begins short.boundaries long.boundaries
+    pub ends : IsNoFailure long.end → IsNoFailure short.end
+
+  -- it does what a run of a secure specification does
+  pub secure_cut : (long short : Run) → IsCut long short → IsSecureRun decls long → IsSecureRun decls short
+  secure_cut long short cut secure = record {
+    never_fails = cut.ends secure.never_fails;
+    untrusted_keeps = λ before after s next is.
+        let at = found before s (next ∷ after) long.boundaries
+        (subst (λ l. Begins l long.boundaries) is cut.begins) in
+        untrusted_cut s next at.here at.later after at.earlier long.boundaries at.looks at.begins at.is
+        secure.untrusted_keeps;
+    blocks_end = λ before after s is x phase_is.
+        let at = found before s after long.boundaries
+        (subst (λ l. Begins l long.boundaries) is cut.begins) in
+        let ran = secure.blocks_end at.earlier at.later at.here at.is x (sym at.looks.phase ∙ phase_is) in (
+          ran.0,
+          ran.1,
+          block_cut ran.0 s at.here (exit_of decls after) (exit_of decls at.later) at.looks
+              (exits_cut after at.later at.begins) ran.2,
+        );
+    inside_behind_block = λ before after s is inside.
+        let at = found before s after long.boundaries
+        (subst (λ l. Begins l long.boundaries) is cut.begins) in
+        let within = secure.inside_behind_block at.earlier at.later at.here at.is
+        (subst (λ p. IsTrue (is_inside p)) at.looks.phase inside) in
+        within_cut before within.0 within.1 within.2 (subst (Alike before) within.3 at.alike) within.4 within.5;
+    code_stays = code_cut short.boundaries long.boundaries cut.begins secure.code_stays;
+  }
+
+-- the first boundary of a run over these events looks as its start
+abbrev pub BeginsAt : Spec → Run → MachineState → Type 0
+BeginsAt spec run s = Begins spec.decls (s ∷ []) run.boundaries
+
+-- more events behind a run, whose first boundary looks as where they begin
+module _ (spec : Spec) (n : ℕ) (more : List Event) (Good : MachineState → Type 0)
+    (behind_cycle : (s : MachineState) (p : Progress) → Good s → cycle_of spec n s ≡ Completed p → Good p.state)
+    (behind_write : (s : MachineState) (poke : Poke) → Good s → Good (state_behind s (poked spec poke s)))
+    (first : (k : ℕ) (s : MachineState) → Good s → BeginsAt spec (run_from spec n k s more) s) where
+  pub cut_at : (k : ℕ) (s : MachineState) (events : List Event) → Good s →
+      IsCut spec.decls (run_from spec n k s (events ++ more)) (run_from spec n k s events)
+  cut_at k s [] good = record { begins = first k s good; ends = λ no. tt }
+  cut_at k s (Cycle ∷ events) good =
+      by (cycle_of spec n s) (λ p is. cut_at (k + 1) p.state events (behind_cycle s p good is)) refl
+    where
+      by : (c : CycleOutcome) →
+          ((p : Progress) → cycle_of spec n s ≡ Completed p →
+          IsCut spec.decls (run_from spec n (k + 1) p.state (events ++ more))
+          (run_from spec n (k + 1) p.state events)) →
+          (cycle_of spec n s ≡ c) →
+          IsCut spec.decls
+          (with_boundary s (after_cycle (k + 1) c (λ next. run_from spec n (k + 1) next (events ++ more))))
+          (with_boundary s (after_cycle (k + 1) c (λ next. run_from spec n (k + 1) next events)))
+      by (Completed p) next is =
+          let later = next p is in
+          record { begins = (same_look spec.decls s, later.begins); ends = later.ends }
+      by OutOfCalls next is = record { begins = (same_look spec.decls s, tt); ends = λ no. no }
+      by (FailedAt place) next is = record { begins = (same_look spec.decls s, tt); ends = λ no. no }
+  cut_at k s (OutsideWrite poke ∷ events) good =
+      cut_at k (state_behind s (poked spec poke s)) events (behind_write s poke good)
+
+-- events that are none or begin with a cycle
+begins_with_cycle :
+    (spec : Spec) (n k : ℕ) (s : MachineState) (more : List Event) → IsEventList more →
+    BeginsAt spec (run_from spec n k s more) s
+begins_with_cycle spec n k s [] is = (same_look spec.decls s, tt)
+begins_with_cycle spec n k s (Cycle ∷ more) is = (same_look spec.decls s, tt)
+begins_with_cycle spec n k s (OutsideWrite poke ∷ more) is = absurd is
+
+-- more events behind a run that ended in a cycle
+ended_from :
+    (spec : Spec) (n k : ℕ) (s : MachineState) (events more : List Event) →
+    (run_from spec n k s events).end ≢ Ended →
+    run_from spec n k s (events ++ more) ≡ run_from spec n k s events
+ended_from spec n k s [] more ends = absurd (ends refl)
+ended_from spec n k s (Cycle ∷ events) more ends =
+    by (cycle_of spec n s) (λ next. ended_from spec n (k + 1) next events more) ends
+  where
+    by : (c : CycleOutcome) →
+        ((next : MachineState) → (run_from spec n (k + 1) next events).end ≢ Ended →
+        run_from spec n (k + 1) next (events ++ more) ≡ run_from spec n (k + 1) next events) →
+        (with_boundary s (after_cycle (k + 1) c (λ next. run_from spec n (k + 1) next events))).end ≢ Ended →
+        with_boundary s (after_cycle (k + 1) c (λ next. run_from spec n (k + 1) next (events ++ more)))
+        ≡ with_boundary s (after_cycle (k + 1) c (λ next. run_from spec n (k + 1) next events))
+    by (Completed p) next ends = ap (with_boundary s) (next p.state ends)
+    by OutOfCalls next ends = refl
+    by (FailedAt place) next ends = refl
+ended_from spec n k s (OutsideWrite poke ∷ events) more ends =
+    ended_from spec n k (state_behind s (poked spec poke s)) events more ends
+
+-- what runs do goes by their events
+pub runs_go_by_events : RunsGoByEvents
+runs_go_by_events = record {
+  ended = λ spec n start events more ends. ended_from spec n 0 start events more ends;
+  cut = λ spec n start events more is secure.
+      secure_cut spec.decls (run_of spec n start (events ++ more)) (run_of spec n start events)
+      (cut_at spec n more (λ s. Unit {0}) (λ s p good is. tt) (λ s poke good. tt)
+      (λ k s good. begins_with_cycle spec n k s more is) 0 start events tt) secure;
+}
