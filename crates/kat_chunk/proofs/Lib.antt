@@ -1,0 +1,4 @@
+mod Options
+mod Parts
+mod Values
+mod Cells

@@ -1,0 +1,4 @@
+pub mod Chunks
+pub mod Laws
+pub mod Limits
+pub mod Regions

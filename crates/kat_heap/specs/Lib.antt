@@ -1,0 +1,15 @@
+pub mod Limits
+pub mod Walks
+pub mod Terms
+pub mod Asking
+pub mod Searches
+pub mod Places
+pub mod Producing
+pub mod Consuming
+pub mod Havoc
+pub mod Moves
+pub mod Items
+pub mod Stands
+pub mod Met
+pub mod Typed
+pub mod Laws
