@@ -1,0 +1,13 @@
+mod Clean
+mod AppliedTypes
+mod GivenTypes
+mod Lookups
+mod TypedExpressions
+mod TypedNames
+mod TypedStatements
+mod TypedCalls
+mod RegisterTables
+mod MemberTables
+mod LayerTables
+mod TypedReads
+mod TypedRuns
