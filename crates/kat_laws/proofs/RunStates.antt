@@ -10,7 +10,7 @@ use Rattle.kat_syntax.specs.MeaningLaws.{StatesStay, CyclesFailAtTrees}
 use Rattle.kat_syntax.specs.OutsideWrites.{Poked, Wrote, NoPlace, NoFit, poked}
 use Rattle.kat_syntax.specs.Run.{Event, Cycle, OutsideWrite, Run, after_cycle, state_behind, run_from}
 use Rattle.kat_syntax.specs.States.{IsState}
-use Rattle.kat_syntax.specs.StateText.{state_text_of}
+use Rattle.kat_runner.specs.StateText.{state_text_of}
 use Rattle.kat_syntax.specs.declared.places.Poke.{Poke}
 use Rattle.kat_laws.specs.TextLaw.{IsOfMachine, ShowsStates, TextTellsRun, BeginningTellsRun}
 use Rattle.kat_laws.specs.Runs.{IsMachine, RegistersAreNamed, RunsKeepStates, Setup, run_in, TextTellsItsRun, BeginningTellsItsRun}

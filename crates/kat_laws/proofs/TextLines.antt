@@ -10,7 +10,7 @@ use Rattle.kat_value.specs.Equality.{value_eq, TestsEquality}
 use Rattle.kat_value.specs.declared.types.Ty.{Ty}
 use Rattle.kat_value.specs.declared.types.TypeDecl.{TypeDecl}
 use Rattle.kat_syntax.specs.Tables.{Name}
-use Rattle.kat_syntax.specs.StateText.{text_of_value, register_line, all_lines, changed_lines}
+use Rattle.kat_runner.specs.StateText.{text_of_value, register_line, all_lines, changed_lines}
 use Rattle.kat_laws.specs.TextLaw.{IsWord}
 use Rattle.kat_laws.proofs.TextNumbers.{front_told_by}
 use Rattle.kat_laws.proofs.TypedRegisters.{TypedRegister, names_of, AreTold}

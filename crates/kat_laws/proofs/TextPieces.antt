@@ -13,7 +13,7 @@ use Rattle.kat_ast.specs.Spec.{Spec}
 use Rattle.kat_syntax.specs.Tables.{Name, register_names}
 use Rattle.kat_syntax.specs.Machine.{MachineState}
 use Rattle.kat_syntax.specs.Run.{Run, RunEnd, Ended, OutIn, FailedIn}
-use Rattle.kat_syntax.specs.StateText.{newline, all_lines, changed_lines, boundary_piece, later_pieces, boundary_pieces, end_piece, joined, state_text_of}
+use Rattle.kat_runner.specs.StateText.{newline, all_lines, changed_lines, boundary_piece, later_pieces, boundary_pieces, end_piece, joined, state_text_of}
 use Rattle.kat_syntax.specs.TypeTable.{types_of_decls}
 use Rattle.kat_laws.specs.TextLaw.{HasRegisterNames, ShowsStates, IsWord, IsWithinWords, IsOfMachine, TextTellsRun, BeginningTellsRun}
 use Rattle.kat_laws.proofs.TextNumbers.{decimal_told}

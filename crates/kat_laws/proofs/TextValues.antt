@@ -13,7 +13,7 @@ use Rattle.kat_value.specs.Typing.{HasType, has_type, layer_has_type}
 use Rattle.kat_value.specs.Widths.{is_number, is_width}
 use Rattle.kat_value.specs.declared.types.TypeDecl.{TypeDecl}
 use Rattle.kat_text.specs.Hexadecimal.{hex_digits}
-use Rattle.kat_syntax.specs.StateText.{text_of_value}
+use Rattle.kat_runner.specs.StateText.{text_of_value}
 use Rattle.kat_laws.specs.TextLaw.{HasText}
 use Rattle.kat_laws.proofs.TextNumbers.{front_told, length-hex_digits, hex_digits_told}
 

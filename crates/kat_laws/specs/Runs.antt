@@ -8,7 +8,7 @@ use Rattle.kat_syntax.specs.Machine.{MachineState}
 use Rattle.kat_syntax.specs.Run.{Event, Run, run_of}
 use Rattle.kat_syntax.specs.Start.{start_of}
 use Rattle.kat_syntax.specs.States.{IsState}
-use Rattle.kat_syntax.specs.StateText.{state_text_of}
+use Rattle.kat_runner.specs.StateText.{state_text_of}
 use Rattle.kat_laws.specs.TextLaw.{HasRegisterNames, ShowsStates, IsOfMachine}
 
 -- a typed specification of the language's text

@@ -8,7 +8,7 @@ use Rattle.kat_ast.specs.Spec.{Spec}
 use Rattle.kat_syntax.specs.Tables.{Name, register_names}
 use Rattle.kat_syntax.specs.States.{IsState, memory_of, register_types}
 use Rattle.kat_syntax.specs.Run.{Run, RunEnd, Ended, OutIn, FailedIn}
-use Rattle.kat_syntax.specs.StateText.{state_text_of}
+use Rattle.kat_runner.specs.StateText.{state_text_of}
 
 -- the byte of a space
 abbrev pub space : ℕ

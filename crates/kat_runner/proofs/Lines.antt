@@ -4,7 +4,7 @@ use Rattle.std.proofs.lemmas.List.{drop_all}
 use Rattle.kat_value.specs.declared.value.Value.{Value}
 use Rattle.kat_value.specs.Equality.{value_eq}
 use Rattle.kat_syntax.specs.Tables.{Name}
-use Rattle.kat_syntax.specs.StateText.{register_line, all_lines, changed_lines}
+use Rattle.kat_runner.specs.StateText.{register_line, all_lines, changed_lines}
 
 all_lines-no_values : (names : List Name) → all_lines names [] ≡ []
 all_lines-no_values [] = refl

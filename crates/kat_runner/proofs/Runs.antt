@@ -12,7 +12,7 @@ use Rattle.kat_syntax.specs.Tables.{Name, register_names}
 use Rattle.kat_syntax.specs.Machine.{MachineState, Progress}
 use Rattle.kat_syntax.specs.Cycle.{CycleOutcome, Completed, OutOfCalls, FailedAt, cycle_of}
 use Rattle.kat_syntax.specs.Run.{Cycle, Run, RunEnd, Ended, OutIn, FailedIn, with_boundary, after_cycle, run_from}
-use Rattle.kat_syntax.specs.StateText.{all_lines, changed_lines, boundary_piece, later_pieces, boundary_pieces, end_piece, joined, boundary_text_of}
+use Rattle.kat_runner.specs.StateText.{all_lines, changed_lines, boundary_piece, later_pieces, boundary_pieces, end_piece, joined, boundary_text_of}
 use Rattle.kat_runner.specs.Runner.{run_of_cycles, text_for_end, text_owed, EndsRun}
 use Rattle.kat_runner.specs.declared.runner.RunEnd.{RunEnd as GivenEnd}
 use Rattle.kat_runner.specs.declared.runner.RunEnd.TheVariants as given

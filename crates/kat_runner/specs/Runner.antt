@@ -5,7 +5,7 @@ use Rattle.kat_io.specs.Seen.{SinkSeen, TookAll, GaveUp}
 use Rattle.kat_ast.specs.Spec.{Spec}
 use Rattle.kat_syntax.specs.Machine.{MachineState}
 use Rattle.kat_syntax.specs.Run.{Cycle, Run, RunEnd, Ended, OutIn, FailedIn, run_of}
-use Rattle.kat_syntax.specs.StateText.{boundary_text_of, state_text_of}
+use Rattle.kat_runner.specs.StateText.{boundary_text_of, state_text_of}
 use Rattle.kat_runner.specs.declared.runner.RunEnd.{RunEnd as GivenEnd}
 use Rattle.kat_runner.specs.declared.runner.RunEnd.TheVariants as given
 

@@ -2,7 +2,7 @@
 ghost use Rattle.std.specs.Prelude.{◌≡◌, ◌≤◌, OnOk, IfOk, IfErr};
 ghost use Rattle.kat_io.specs.Seen.{IsWrite, TookAll, GaveUp};
 ghost use Rattle.kat_syntax.specs.Run.{Ended};
-ghost use Rattle.kat_syntax.specs.StateText.{all_lines, changed_lines, boundary_piece, end_piece};
+ghost use Rattle.kat_runner.specs.StateText.{all_lines, changed_lines, boundary_piece, end_piece};
 ghost use Rattle.kat_runner.specs.Runner.{run_of_cycles, text_owed, EndsRun};
 
 use crate::text::{push_boundary, push_ended, push_first_boundary};

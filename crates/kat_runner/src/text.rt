@@ -3,8 +3,8 @@
 ghost use Rattle.std.specs.Prelude.{◌≡◌, ◌++◌, [], OnOk, if◌then◌else◌};
 ghost use Rattle.kat_value.specs.Equality.{value_eq};
 ghost use Rattle.kat_syntax.specs.Run.{Ended};
-ghost use Rattle.kat_syntax.specs.StateText.{text_of_value, register_line, all_lines};
-ghost use Rattle.kat_syntax.specs.StateText.{changed_lines, boundary_piece, end_piece};
+ghost use Rattle.kat_runner.specs.StateText.{text_of_value, register_line, all_lines};
+ghost use Rattle.kat_runner.specs.StateText.{changed_lines, boundary_piece, end_piece};
 
 use kat_text::{Text, TextBuilder};
 use kat_value::{Value, same_value};

@@ -27,7 +27,6 @@ pub mod Cycle
 pub mod OutsideWrites
 pub mod Run
 pub mod MeaningLaws
-pub mod StateText
 pub mod Modes
 pub mod Fragments
 pub mod Holds

@@ -3,7 +3,7 @@ use Rattle.std.proofs.Common.{◌≡◌, ℕ, ◌<◌, ◌≤◌, ◌^◌, List,
 use Rattle.std.proofs.lemmas.List.{length-replicate}
 use Rattle.kat_ast.specs.Spec.{Spec}
 use Rattle.kat_syntax.specs.Run.{Cycle, Run}
-use Rattle.kat_syntax.specs.StateText.{state_text_of}
+use Rattle.kat_runner.specs.StateText.{state_text_of}
 use Rattle.kat_laws.specs.Runs.{IsMachine, Setup, TextTellsItsRun, BeginningTellsItsRun}
 use Rattle.kat_laws.specs.Images.{ImagesAreStates}
 use Rattle.kat_words.specs.Limits.{most_cycles}

@@ -11,7 +11,7 @@ use Rattle.kat_io.specs.declared.writing.SinkError.TheVariants as write
 use Rattle.kat_ast.specs.Spec.{Spec}
 use Rattle.kat_ast.specs.declared.place.Place.{Place}
 use Rattle.kat_syntax.specs.Run.{Run, RunEnd, Ended, OutIn, FailedIn}
-use Rattle.kat_syntax.specs.StateText.{boundary_text_of, end_piece, state_text_of}
+use Rattle.kat_runner.specs.StateText.{boundary_text_of, end_piece, state_text_of}
 use Rattle.kat_runner.specs.Runner.{text_owed, text_for_end}
 use Rattle.kat_top.specs.declared.fault.Fault.{Fault}
 use Rattle.kat_top.specs.declared.fault.Fault.TheVariants as fault

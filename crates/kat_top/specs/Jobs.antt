@@ -7,7 +7,7 @@ use Rattle.kat_ast.specs.Spec.{Spec}
 use Rattle.kat_ast.specs.Specifications.{canonical_text}
 use Rattle.kat_syntax.specs.Machine.{MachineState}
 use Rattle.kat_syntax.specs.Run.{Cycle, Run as MachineRun, RunEnd, Ended, OutIn, FailedIn, run_of}
-use Rattle.kat_syntax.specs.StateText.{state_text_of}
+use Rattle.kat_runner.specs.StateText.{state_text_of}
 use Rattle.kat_words.specs.Jobs.{job_of}
 use Rattle.kat_words.specs.declared.asked.Job.{Job}
 use Rattle.kat_words.specs.declared.asked.Job.TheVariants.{Check, Print, Run}

@@ -3,7 +3,7 @@ use Rattle.std.specs.Prelude.{◌≡◌, ◌≤◌, ◌++◌, ℕ, List, replica
 use Rattle.kat_ast.specs.Spec.{Spec}
 use Rattle.kat_syntax.specs.Machine.{MachineState}
 use Rattle.kat_syntax.specs.Run.{Cycle, Run, run_of}
-use Rattle.kat_syntax.specs.StateText.{state_text_of}
+use Rattle.kat_runner.specs.StateText.{state_text_of}
 use Rattle.kat_image.specs.Image.{IsImageOf}
 use Rattle.kat_words.specs.Limits.{most_cycles}
 use Rattle.kat_laws.specs.TextLaw.{ShowsStates}

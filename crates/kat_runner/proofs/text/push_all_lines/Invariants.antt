@@ -1,5 +1,5 @@
 use Rattle.std.proofs.Common.{◌≡◌, ◌++◌, drop}
-use Rattle.kat_syntax.specs.StateText.{all_lines}
+use Rattle.kat_runner.specs.StateText.{all_lines}
 use Rattle.kat_runner.proofs.text.push_all_lines.Given as goal
 
 -- the lines that are still to come make the text whole
