@@ -1,2 +1,5 @@
+pub mod Cells
+pub mod Changes
 pub mod Lines
 pub mod Runs
+pub mod Updated

@@ -5,26 +5,25 @@ use Rattle.kat_io.specs.declared.writing.SinkError.{SinkError}
 use Rattle.kat_io.specs.declared.writing.SinkError.TheVariants as sink_error
 use Rattle.kat_io.specs.Seen.{SinkSeen, TookAll, GaveUp}
 use Rattle.kat_io.specs.WriteLaws.{WritesJoin, GaveUpInMore, GaveUpAtOnce}
-use Rattle.kat_value.specs.declared.value.Value.{Value}
 use Rattle.kat_ast.specs.declared.place.Place.{Place}
 use Rattle.kat_ast.specs.Spec.{Spec}
-use Rattle.kat_syntax.specs.Tables.{Name, register_names}
+use Rattle.kat_ast.specs.declared.decl.DeclForm.{DeclForm}
 use Rattle.kat_syntax.specs.Machine.{MachineState, Progress}
 use Rattle.kat_syntax.specs.Cycle.{CycleOutcome, Completed, OutOfCalls, FailedAt, cycle_of}
 use Rattle.kat_syntax.specs.Run.{Cycle, Run, RunEnd, Ended, OutIn, FailedIn, with_boundary, after_cycle, run_from}
-use Rattle.kat_runner.specs.StateText.{all_lines, changed_lines, boundary_piece, later_pieces, boundary_pieces, end_piece, joined, boundary_text_of}
+use Rattle.kat_runner.specs.StateText.{first_lines, later_lines, boundary_piece, later_pieces, boundary_pieces, end_piece, joined, boundary_text_of}
 use Rattle.kat_runner.specs.Runner.{run_of_cycles, text_for_end, text_owed, EndsRun}
 use Rattle.kat_runner.specs.declared.runner.RunEnd.{RunEnd as GivenEnd}
 use Rattle.kat_runner.specs.declared.runner.RunEnd.TheVariants as given
 
 -- what is written behind a boundary with this state, from the outcome of the cycle behind it, which
 -- is cycle k
-abbrev pub text_after : List Name → ℕ → MachineState → CycleOutcome → (MachineState → List ℕ) →
+abbrev pub text_after : List DeclForm → ℕ → MachineState → CycleOutcome → (MachineState → List ℕ) →
     List ℕ
-text_after names k before (Completed progress) go =
-    boundary_piece k (changed_lines names before.registers progress.state.registers) ++ go progress.state
-text_after names k before OutOfCalls go = []
-text_after names k before (FailedAt place) go = []
+text_after decls k before (Completed progress) go =
+    boundary_piece k (later_lines decls before progress.state) ++ go progress.state
+text_after decls k before OutOfCalls go = []
+text_after decls k before (FailedAt place) go = []
 
 abbrev pub end_after : ℕ → CycleOutcome → (MachineState → RunEnd) → RunEnd
 end_after k (Completed progress) go = go progress.state
@@ -36,7 +35,8 @@ end_after k (FailedAt place) go = FailedIn k place
 abbrev pub text_behind : Spec → ℕ → ℕ → MachineState → ℕ → List ℕ
 text_behind spec calls k state zero = end_piece k Ended
 text_behind spec calls k state (suc left) =
-    text_after (register_names spec.decls) (k + 1) state (cycle_of spec calls state) (λ next. text_behind spec calls (k + 1) next left)
+    text_after spec.decls (k + 1) state (cycle_of spec calls state) (λ next. text_behind spec calls
+    (k + 1) next left)
 
 abbrev pub end_behind : Spec → ℕ → ℕ → MachineState → ℕ → RunEnd
 end_behind spec calls k state zero = Ended
@@ -50,23 +50,26 @@ last_piece last (OutIn cycle) = []
 last_piece last (FailedIn cycle place) = []
 
 -- a run from boundary k on, which has this state, with this text behind it and this end
-record GoesOn (names : List Name) (k : ℕ) (state : MachineState) (text : List ℕ) (end : RunEnd) (run : Run) : Type 0 where
+record GoesOn (decls : List DeclForm) (k : ℕ) (state : MachineState) (text : List ℕ) (end : RunEnd)
+    (run : Run) : Type 0 where
   later : List MachineState
   boundaries : run.boundaries ≡ state ∷ later
-  text_is : joined (later_pieces names (k + 1) state later) ++ last_piece (k + length later) run.end
+  text_is : joined (later_pieces decls (k + 1) state later) ++ last_piece (k + length later) run.end
       ≡ text
   end_is : run.end ≡ end
 
-goes_on-after : (names : List Name) (k : ℕ) (state : MachineState) (go : MachineState → Run) (text : MachineState → List ℕ) (end : MachineState → RunEnd) →
-    ((next : MachineState) → GoesOn names (k + 1) next (text next) (end next) (go next)) →
+goes_on-after : (decls : List DeclForm) (k : ℕ) (state : MachineState) (go : MachineState →
+    Run) (text : MachineState → List ℕ) (end : MachineState → RunEnd) →
+    ((next : MachineState) → GoesOn decls (k + 1) next (text next) (end next) (go next)) →
     (outcome : CycleOutcome) →
-    GoesOn names k state (text_after names (k + 1) state outcome text) (end_after (k + 1) outcome end) (with_boundary state (after_cycle (k + 1) outcome go))
-goes_on-after names k state go text end goes (Completed progress) =
+    GoesOn decls k state (text_after decls (k + 1) state outcome text) (end_after (k + 1) outcome
+    end) (with_boundary state (after_cycle (k + 1) outcome go))
+goes_on-after decls k state go text end goes (Completed progress) =
     let next = progress.state in
-    let g : GoesOn names (k + 1) next (text next) (end next) (go next) = goes next in
+    let g : GoesOn decls (k + 1) next (text next) (end next) (go next) = goes next in
     let piece : List ℕ =
-    boundary_piece (k + 1) (changed_lines names state.registers next.registers) in
-    let others : List ℕ = joined (later_pieces names (k + 1 + 1) next g.later) in
+    boundary_piece (k + 1) (later_lines decls state next) in
+    let others : List ℕ = joined (later_pieces decls (k + 1 + 1) next g.later) in
     let e : k + suc (length g.later) ≡ k + 1 + length g.later = omega arith in
     record {
       later = next ∷ g.later;
@@ -76,18 +79,27 @@ goes_on-after names k state go text end goes (Completed progress) =
           ∙ ap (λ x. piece ++ x) g.text_is;
       end_is = g.end_is;
     }
-goes_on-after names k state go text end goes OutOfCalls =
+goes_on-after decls k state go text end goes OutOfCalls =
     record { later = []; boundaries = refl; text_is = refl; end_is = refl }
-goes_on-after names k state go text end goes (FailedAt place) =
+goes_on-after decls k state go text end goes (FailedAt place) =
     record { later = []; boundaries = refl; text_is = refl; end_is = refl }
 
 goes_on : (spec : Spec) (calls left k : ℕ) (state : MachineState) →
-    GoesOn (register_names spec.decls) k state (text_behind spec calls k state left) (end_behind spec calls k state left) (run_from spec calls k state (replicate left Cycle))
+    GoesOn spec.decls k state (text_behind spec calls k state left) (end_behind spec calls k state
+    left) (run_from spec calls k state (replicate left Cycle))
 goes_on spec calls zero k state =
-    record { later = []; boundaries = refl; text_is = ap (λ n. end_piece n Ended) (add-zero k); end_is = refl }
+    record {
+      later = [];
+      boundaries = refl;
+      text_is =
+          ap (λ n. end_piece n Ended) (add-zero k);
+      end_is = refl;
+    }
 goes_on spec calls (suc left) k state =
-    goes_on-after (register_names spec.decls) k state (λ next. run_from spec calls (k + 1) next (replicate left Cycle))
-    (λ next. text_behind spec calls (k + 1) next left) (λ next. end_behind spec calls (k + 1) next left)
+    goes_on-after spec.decls k state (λ next. run_from spec calls (k + 1) next (replicate left
+    Cycle))
+    (λ next. text_behind spec calls (k + 1) next left) (λ next. end_behind spec calls (k + 1) next
+    left)
     (λ next. goes_on spec calls left (k + 1) next) (cycle_of spec calls state)
 
 text_for_end-is : (spec : Spec) (run : Run) (end : RunEnd) → run.end ≡ end →
@@ -100,17 +112,17 @@ text_for_end-is spec run (FailedIn cycle place) e = sym (append-nil (boundary_te
 
 -- the text that is owed, from boundary 0 and what is behind it
 text_owed-is : (spec : Spec) (state : MachineState) (text : List ℕ) (end : RunEnd) (run : Run) →
-    GoesOn (register_names spec.decls) 0 state text end run →
-    boundary_piece 0 (all_lines (register_names spec.decls) state.registers) ++ text
+    GoesOn spec.decls 0 state text end run →
+    boundary_piece 0 (first_lines spec.decls state) ++ text
     ≡ text_owed spec run
 text_owed-is spec state text end run g =
-    let names : List Name = register_names spec.decls in
-    let piece : List ℕ = boundary_piece 0 (all_lines names state.registers) in
-    let others : List ℕ = joined (later_pieces names 1 state g.later) in
+    let piece : List ℕ = boundary_piece 0 (first_lines spec.decls state) in
+    let others : List ℕ = joined (later_pieces spec.decls 1 state g.later) in
     let e : suc (length g.later) - 1 ≡ 0 + length g.later = omega arith in
     sym (
     text_for_end-is spec run run.end refl
-    ∙ ap (λ (b : List MachineState). joined (boundary_pieces names b) ++ last_piece (length b - 1) run.end) g.boundaries
+    ∙ ap (λ (b : List MachineState). joined (boundary_pieces spec.decls b) ++ last_piece (length b
+    - 1) run.end) g.boundaries
     ∙ append_assoc piece others (last_piece (suc (length g.later) - 1) run.end)
     ∙ ap (λ n. piece ++ (others ++ last_piece n run.end)) e
     ∙ ap (λ x. piece ++ x) g.text_is)
@@ -165,19 +177,20 @@ module _ (join : WritesJoin) (longer : GaveUpInMore) (at_once : GaveUpAtOnce) wh
 
 -- what is owed at boundary k of a run of so many cycles, which has this state, with so many cycles
 -- left
-abbrev pub OwesAt : Spec → ℕ → MachineState → ℕ → SinkSeen → SinkSeen → ℕ → MachineState → ℕ → Type 0
+abbrev pub OwesAt : Spec → ℕ → MachineState → ℕ → SinkSeen → SinkSeen → ℕ → MachineState → ℕ →
+    Type 0
 OwesAt spec calls start cycles old now k state left =
     let run : Run = run_of_cycles spec calls start cycles in
     Owes (text_owed spec run) run.end old now
     (text_behind spec calls k state left) (end_behind spec calls k state left)
 
 -- the piece of boundary 0
-abbrev pub first_piece : List Name → List Value → List ℕ
-first_piece names values = boundary_piece 0 (all_lines names values)
+abbrev pub first_piece : List DeclForm → MachineState → List ℕ
+first_piece decls state = boundary_piece 0 (first_lines decls state)
 
 -- the piece of boundary k + 1
-abbrev pub next_piece : ℕ → List Name → List Value → List Value → List ℕ
-next_piece k names before values = boundary_piece (k + 1) (changed_lines names before values)
+abbrev pub next_piece : ℕ → List DeclForm → MachineState → MachineState → List ℕ
+next_piece k decls before after = boundary_piece (k + 1) (later_lines decls before after)
 
 -- what is owed along a run, by those laws
 module _ (join : WritesJoin) (longer : GaveUpInMore) (at_once : GaveUpAtOnce) where
@@ -188,45 +201,37 @@ module _ (join : WritesJoin) (longer : GaveUpInMore) (at_once : GaveUpAtOnce) wh
     abbrev owed : List ℕ
     owed = text_owed spec run
 
-    abbrev declared : List Name
-    declared = register_names spec.decls
-
     abbrev behind : ℕ → MachineState → ℕ → List ℕ
     behind = text_behind spec calls
 
-    first_is : first_piece declared start.registers ++ behind 0 start cycles ≡ owed
+    first_is : first_piece spec.decls start ++ behind 0 start cycles ≡ owed
     first_is =
         text_owed-is spec start (behind 0 start cycles) (end_behind spec calls 0 start cycles) run
         (goes_on spec calls cycles 0 start)
 
-    -- boundary 0 is written, by a printer that has the names and the values
-    module _ (now : SinkSeen) (values : List Value) (names : List Name)
-        (values_is : values ≡ start.registers) (names_is : names ≡ declared) where
-      start_is : first_piece names values ≡ first_piece declared start.registers
-      start_is =
-          ap (λ vs. first_piece names vs) values_is
-          ∙ ap (λ ns. first_piece ns start.registers) names_is
-
+    -- boundary 0 is written
+    module _ (now : SinkSeen) where
       -- the whole piece
-      pub owes_at-start : (left : ℕ) → left ≡ cycles → TookAll (first_piece names values) old now →
+      pub owes_at-start : (left : ℕ) → left ≡ cycles →
+          TookAll (first_piece spec.decls start) old now →
           OwesAt spec calls start cycles old now 0 start left
       owes_at-start left left_is wrote =
-          let piece : List ℕ = first_piece declared start.registers in
+          let piece : List ℕ = first_piece spec.decls start in
           record {
             front = piece;
-            took = subst (λ text. TookAll text old now) start_is wrote;
+            took = wrote;
             text_is = ap (λ n. piece ++ behind 0 start n) left_is ∙ first_is;
             end_is = (goes_on spec calls cycles 0 start).end_is
                 ∙ ap (end_behind spec calls 0 start) (sym left_is);
           }
 
       -- a part of it
-      pub start-part : (error : SinkError) → GaveUp error (first_piece names values) old now →
+      pub start-part : (error : SinkError) → GaveUp error (first_piece spec.decls start) old now →
           GaveUp error owed old now
       start-part error gave_up =
           let later : List ℕ = behind 0 start cycles in
-          subst (λ text. GaveUp error text old now) (ap (λ p. p ++ later) start_is ∙ first_is)
-          (longer error (first_piece names values) later old now gave_up)
+          subst (λ text. GaveUp error text old now) first_is
+          (longer error (first_piece spec.decls start) later old now gave_up)
 
     module _ (now : SinkSeen) (k : ℕ) (state : MachineState) (left : ℕ)
         (owes : OwesAt spec calls start cycles old now k state left) where
@@ -237,7 +242,8 @@ module _ (join : WritesJoin) (longer : GaveUpInMore) (at_once : GaveUpAtOnce) wh
       -- a cycle is left
       module _ (more : ℕ) (some : left ≡ suc more) where
         abbrev by_cycle : CycleOutcome → List ℕ
-        by_cycle outcome = text_after declared (k + 1) state outcome (λ next. behind (k + 1) next more)
+        by_cycle outcome = text_after spec.decls (k + 1) state outcome (λ next. behind (k + 1) next
+            more)
 
         abbrev end_by_cycle : CycleOutcome → RunEnd
         end_by_cycle outcome =
@@ -274,33 +280,27 @@ module _ (join : WritesJoin) (longer : GaveUpInMore) (at_once : GaveUpAtOnce) wh
                   (owes-done join longer at_once _ _ old now _ _ owes (text_by (FailedAt place) e)),
             )
 
-        -- the cycle completed, and its boundary is printed behind the one before
+        -- the cycle completed, and its boundary is printed behind the one before, which is shown
         module _ (progress : Progress) (e : cycle_of spec calls state ≡ Completed progress)
-            (after : SinkSeen) (names : List Name) (before values : List Value)
-            (names_is : names ≡ declared) (before_is : before ≡ state.registers)
-            (values_is : values ≡ progress.state.registers) where
-          piece_is : next_piece k names before values
-              ≡ next_piece k declared state.registers progress.state.registers
-          piece_is =
-              ap (λ ns. next_piece k ns before values) names_is
-              ∙ ap (λ vs. next_piece k declared vs values) before_is
-              ∙ ap (λ vs. next_piece k declared state.registers vs) values_is
-
+            (after : SinkSeen) (shown : MachineState) (shown_is : shown ≡ state) where
           rest_is : behind k state left
-              ≡ next_piece k names before values ++ behind (k + 1) progress.state more
+              ≡ next_piece k spec.decls shown progress.state ++ behind (k + 1) progress.state more
           rest_is =
               text_by (Completed progress) e
-              ∙ ap (λ p. p ++ behind (k + 1) progress.state more) (sym piece_is)
+              ∙ ap (λ s. next_piece k spec.decls s progress.state ++ behind (k + 1) progress.state
+              more)
+              (sym shown_is)
 
           -- the whole piece
-          pub owes_at-next : TookAll (next_piece k names before values) now after →
+          pub owes_at-next : TookAll (next_piece k spec.decls shown progress.state) now after →
               OwesAt spec calls start cycles old after (k + 1) progress.state more
           owes_at-next wrote =
               owes-piece join longer at_once _ _ old now _ _ owes after _ _ _ wrote rest_is
               (end_by (Completed progress) e)
 
           -- a part of it
-          pub next-part : (error : SinkError) → GaveUp error (next_piece k names before values) now after →
+          pub next-part : (error : SinkError) →
+              GaveUp error (next_piece k spec.decls shown progress.state) now after →
               GaveUp error owed old after
           next-part error gave_up =
               owes-part join longer at_once _ _ old now _ _ owes error after _ _ gave_up rest_is

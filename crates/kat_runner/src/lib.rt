@@ -4,6 +4,7 @@
 #![tactic(auto)]
 
 mod runner;
+mod shown;
 mod text;
 
 pub use runner::{RunEnd, run};

@@ -2,16 +2,16 @@
 ghost use Rattle.std.specs.Prelude.{◌≡◌, ◌≤◌, OnOk, IfOk, IfErr};
 ghost use Rattle.kat_io.specs.Seen.{IsWrite, TookAll, GaveUp};
 ghost use Rattle.kat_syntax.specs.Run.{Ended};
-ghost use Rattle.kat_runner.specs.StateText.{all_lines, changed_lines, boundary_piece, end_piece};
-ghost use Rattle.kat_runner.specs.Runner.{run_of_cycles, text_owed, EndsRun};
+ghost use Rattle.kat_runner.specs.StateText.{first_lines, later_lines, boundary_piece, end_piece};
+ghost use Rattle.kat_runner.specs.Runner.{run_of_cycles, text_owed, EndsRun, ChangesOnlyStored};
 
+use crate::shown::{sorted, update};
 use crate::text::{push_boundary, push_ended, push_first_boundary};
 use kat_eval::{CycleEnd, cycle};
 use kat_io::{Sink, SinkError, writes_join};
 use kat_state::State;
-use kat_syntax::{Checked, Moded, Place};
-use kat_text::{Text, TextBuilder};
-use kat_value::{Value, Values, copy_value, copy_values, same_value};
+use kat_syntax::{Checked, Moded, Place, what_changes};
+use kat_text::TextBuilder;
 use std::alloc::{AllocError, Global};
 
 /// Writes boundary 0, then makes each cycle and writes its boundary, and at the end writes the last
@@ -66,11 +66,18 @@ fn run_cycles<K: Sink>(
         IfErr result (λ error. GaveUp error text (K.seen sink.old) (K.seen sink.new)) }
 {
     writes_join();
-    let names = machine.register_names();
-    let mut printer = Printer::start(alloc, names, state.registers(), sink)?;
+    what_changes();
+    let mut printer = Printer::start(alloc, machine, &state, sink)?;
     for done in 0..cycles {
         match cycle(alloc, machine, calls, state) {
-            CycleEnd::Done { state: next, .. } => state = next,
+            CycleEnd::Done {
+                state: next,
+                stores,
+                ..
+            } => {
+                printer.boundary(alloc, done + 1, machine, &next, stores.as_slice(), sink)?;
+                state = next;
+            }
             CycleEnd::Out => return Ok(RunEnd::Out(done + 1)),
             CycleEnd::Fail { site } => {
                 return Ok(RunEnd::Failed {
@@ -80,17 +87,16 @@ fn run_cycles<K: Sink>(
             }
             CycleEnd::Memory => return Err(SinkError::Memory),
         }
-        printer.boundary(alloc, done + 1, names, state.registers(), sink)?;
     }
     printer.ended(cycles, sink)?;
     Ok(RunEnd::Ended)
 }
 
-/// What the boundaries of a run are printed with: the values that were printed last, so that no
-/// state is copied whole, and one buffer for the text of a piece.
+/// What the boundaries of a run are printed with: the state that was printed last, which is copied
+/// whole only once, and one buffer for the text of a piece.
 #[derive(Drop)]
 struct Printer {
-    shown: Values,
+    shown: State,
     text: TextBuilder,
 }
 
@@ -98,42 +104,78 @@ impl Printer {
     /// Writes boundary 0.
     fn start<K: Sink>(
         alloc: Global,
-        names: &[Text],
-        values: &[Value],
+        machine: &Checked,
+        state: &State,
         sink: &mut K,
     ) -> Result<Printer, SinkError>
-        ensures shown { IfOk result (λ printer. printer.shown ≡ values.now) }
-        ensures ok { let piece = boundary_piece 0 (all_lines names.now values.now) in
+        ensures shown { IfOk result (λ printer. printer.shown ≡ state.now) }
+        ensures ok { let piece = boundary_piece 0 (first_lines machine.now.decls state.now) in
             OnOk result (TookAll piece (K.seen sink.old) (K.seen sink.new)) }
-        ensures err { let piece = boundary_piece 0 (all_lines names.now values.now) in
+        ensures err { let piece = boundary_piece 0 (first_lines machine.now.decls state.now) in
             IfErr result (λ error. GaveUp error piece (K.seen sink.old) (K.seen sink.new)) }
     {
-        let shown = copy_values(alloc, values).map_err(|_| SinkError::Memory)?;
+        let printer = Printer::at_start(alloc, machine, state).map_err(|_| SinkError::Memory)?;
+        sink.write_all(printer.text.as_bytes())?;
+        Ok(printer)
+    }
+
+    /// The text of boundary 0, and a copy of its state.
+    fn at_start(alloc: Global, machine: &Checked, state: &State) -> Result<Printer, AllocError>
+        ensures shown { IfOk result (λ printer. printer.shown ≡ state.now) }
+        ensures text { let lines = first_lines machine.now.decls state.now in
+            IfOk result (λ printer. printer.text ≡ boundary_piece 0 lines) }
+    {
+        let shown = state.copy(alloc)?;
         let mut text = TextBuilder::new(alloc);
-        push_first_boundary(&mut text, names, values).map_err(|_| SinkError::Memory)?;
-        sink.write_all(text.as_bytes())?;
+        push_first_boundary(&mut text, machine, state)?;
         Ok(Printer { shown, text })
     }
 
-    /// Writes boundary k.
+    /// Writes boundary k, before which these indices were stored.
     fn boundary<K: Sink>(
         &mut self,
         alloc: Global,
         k: u64,
-        names: &[Text],
-        values: &[Value],
+        machine: &Checked,
+        next: &State,
+        stores: &[u64],
         sink: &mut K,
     ) -> Result<(), SinkError>
-        ensures shown { OnOk result (self.new.shown ≡ values.now) }
-        ensures wrote { let lines = changed_lines names.now self.old.shown values.now in
+        requires { ChangesOnlyStored stores.now self.old.shown next.now }
+        ensures shown { OnOk result (self.new.shown ≡ next.now) }
+        ensures wrote { let lines = later_lines machine.now.decls self.old.shown next.now in
             IsWrite result (boundary_piece k lines) (K.seen sink.old) (K.seen sink.new) }
     {
-        self.text.clear();
-        push_boundary(&mut self.text, k, names, self.shown.as_slice(), values).map_err(
-            |_| SinkError::Memory,
-        )?;
-        update_values(alloc, &mut self.shown, values).map_err(|_| SinkError::Memory)?;
+        self.put_boundary(alloc, k, machine, next, stores)
+            .map_err(|_| SinkError::Memory)?;
         sink.write_all(self.text.as_bytes())
+    }
+
+    /// The text of boundary k, and what its cycle changed.
+    fn put_boundary(
+        &mut self,
+        alloc: Global,
+        k: u64,
+        machine: &Checked,
+        next: &State,
+        stores: &[u64],
+    ) -> Result<(), AllocError>
+        requires { ChangesOnlyStored stores.now self.old.shown next.now }
+        ensures shown { OnOk result (self.new.shown ≡ next.now) }
+        ensures text { let lines = later_lines machine.now.decls self.old.shown next.now in
+            OnOk result (self.new.text ≡ boundary_piece k lines) }
+    {
+        self.text.clear();
+        let stored = sorted(alloc, stores)?;
+        push_boundary(
+            &mut self.text,
+            k,
+            machine,
+            &self.shown,
+            next,
+            stored.as_slice(),
+        )?;
+        update(alloc, &mut self.shown, next, stored.as_slice())
     }
 
     /// Writes the last piece of a run that ended.
@@ -144,21 +186,4 @@ impl Printer {
         push_ended(&mut self.text, last).map_err(|_| SinkError::Memory)?;
         sink.write_all(self.text.as_bytes())
     }
-}
-
-/// Makes the values equal to the wanted ones, and copies those that differ.
-fn update_values(alloc: Global, values: &mut Values, wanted: &[Value]) -> Result<(), AllocError>
-    ensures { OnOk result (values.new ≡ wanted.now) }
-{
-    if values.len() != wanted.len() {
-        *values = copy_values(alloc, wanted)?;
-        return Ok(());
-    }
-    for at in 0..wanted.len() {
-        let value = &wanted[at];
-        if !same_value(&values.as_slice()[at], value) {
-            values.set(at, copy_value(alloc, value)?);
-        }
-    }
-    Ok(())
 }

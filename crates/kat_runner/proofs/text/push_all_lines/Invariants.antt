@@ -1,9 +1,0 @@
-use Rattle.std.proofs.Common.{◌≡◌, ◌++◌, drop}
-use Rattle.kat_runner.specs.StateText.{all_lines}
-use Rattle.kat_runner.proofs.text.push_all_lines.Given as goal
-
--- the lines that are still to come make the text whole
-abbrev pub invariant-loop-at : goal.invariant-loop-at
-invariant-loop-at l =
-    l.out ++ all_lines (drop l.at l.names) (drop l.at l.values)
-    ≡ l.initial.out ++ all_lines l.names l.values
