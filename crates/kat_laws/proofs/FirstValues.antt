@@ -1,9 +1,9 @@
 -- The first value of each type is of that type.
-use Rattle.std.proofs.Common.{◌≡◌, ℕ, zero, suc, ◌+◌, ◌<◌, ◌≤◌, ◌&&◌, ◌^◌, eqb, Bool, true, false, if◌then◌else◌, List, [], ◌∷◌, ◌++◌, length, map, Option, Some, None, inl, inr, refl, sym, ap, subst, ◌∙◌, arith, append_assoc, length-append}
+use Rattle.std.proofs.Common.{◌≡◌, ℕ, zero, suc, ◌+◌, ◌<◌, ◌&&◌, ◌^◌, eqb, Bool, true, false, if◌then◌else◌, List, [], ◌∷◌, ◌++◌, length, map, Option, Some, None, inl, inr, refl, sym, ap, subst, ◌∙◌, arith, append_assoc, length-append}
 use Rattle.std.specs.Prelude.{nat_lt, option_and_then, slice_get}
 use Rattle.std.specs.Option.{option_map, option_flatten}
 use Rattle.std.specs.List.{AllByRecursion}
-use Rattle.std.proofs.lemmas.Bool.{and_parts, and_from, eqb-true, eq-eqb, ltb-true, lt-ltb, false≢true, cases_lt}
+use Rattle.std.proofs.lemmas.Bool.{and_parts, and_from, eq-eqb, ltb-true, lt-ltb, false≢true, cases_lt}
 use Rattle.std.proofs.lemmas.List.{append-nil}
 use Rattle.std.proofs.lemmas.Nat.{pow_pos}
 use Rattle.kat_value.specs.declared.types.Field.{Field}
@@ -13,9 +13,9 @@ use Rattle.kat_value.specs.declared.types.TypeDecl.{TypeDecl}
 use Rattle.kat_value.specs.declared.types.TypeDecl.TheVariants as type
 use Rattle.kat_value.specs.declared.value.Value.{Value, fold-roll-Value}
 use Rattle.kat_value.specs.declared.value.Value.TheVariants.{Unit as UnitValue, Bool as Truth, Bits as Number, Member, Made, Rec, rolls-Unit, rolls-Bool, rolls-Bits, rolls-Member, rolls-Made, rolls-Rec}
-use Rattle.kat_value.specs.declared.value.Value.TheOpen.{Value-F, Unit as UnitLayer, Bool as TruthLayer, Bits as NumberLayer, Member as MemberLayer, Made as MadeLayer, Rec as RecLayer}
+use Rattle.kat_value.specs.declared.value.Value.TheOpen.{Unit as UnitLayer, Bool as TruthLayer, Bits as NumberLayer, Member as MemberLayer, Made as MadeLayer, Rec as RecLayer}
 use Rattle.kat_value.specs.Making.{all_there}
-use Rattle.kat_value.specs.Typing.{has_type, have_types, all_pass, layer_has_type, member_count, ctor_at, fields_at, passes_ctor, pass_record, members_in, ctors_in, fields_in}
+use Rattle.kat_value.specs.Typing.{has_type, all_pass, layer_has_type, member_count, ctor_at, fields_at, passes_ctor, pass_record, members_in, ctors_in, fields_in}
 use Rattle.kat_value.specs.Widths.{is_number, is_width}
 use Rattle.kat_syntax.specs.FirstValues.{first_by, first_of_decl, firsts_with}
 use Rattle.kat_syntax.specs.TypeTable.{is_enum, is_union, is_record, may_stand_in, parts_of_type}

@@ -1,5 +1,6 @@
 pub mod Clean
-pub mod RegisterNames
+pub mod NameWords
+pub mod DeclaredNames
 pub mod TypedRegisters
 pub mod KindsOfTypes
 pub mod FirstValues
@@ -7,6 +8,10 @@ pub mod Starts
 pub mod ImageStates
 pub mod RunStates
 pub mod TextNumbers
+pub mod TextNames
 pub mod TextValues
 pub mod TextLines
+pub mod TextRegisters
+pub mod TextCells
+pub mod TextStates
 pub mod TextPieces

@@ -1,19 +1,16 @@
 -- A run from a state of the machine is one of the machine, and its text tells it.
-use Rattle.std.proofs.Common.{◌≡◌, ℕ, ◌+◌, ◌<◌, ◌≤◌, ◌^◌, List, [], ◌∷◌, ◌++◌, length, refl, arith}
+use Rattle.std.proofs.Common.{◌≡◌, ℕ, ◌+◌, ◌<◌, ◌^◌, List, [], ◌∷◌, length, refl, arith}
 use Rattle.std.proofs.lemmas.List.Elements.{All-nil, All-cons}
 use Rattle.kat_ast.specs.Spec.{Spec}
-use Rattle.kat_ast.specs.declared.place.Place.{Place}
-use Rattle.kat_syntax.specs.Limits.{most_declarations}
 use Rattle.kat_syntax.specs.Machine.{MachineState}
 use Rattle.kat_syntax.specs.Cycle.{CycleOutcome, Completed, OutOfCalls, FailedAt, cycle_of}
 use Rattle.kat_syntax.specs.MeaningLaws.{StatesStay, CyclesFailAtTrees}
 use Rattle.kat_syntax.specs.OutsideWrites.{Poked, Wrote, NoPlace, NoFit, poked}
 use Rattle.kat_syntax.specs.Run.{Event, Cycle, OutsideWrite, Run, after_cycle, state_behind, run_from}
 use Rattle.kat_syntax.specs.States.{IsState}
-use Rattle.kat_runner.specs.StateText.{state_text_of}
 use Rattle.kat_syntax.specs.declared.places.Poke.{Poke}
-use Rattle.kat_laws.specs.TextLaw.{IsOfMachine, ShowsStates, TextTellsRun, BeginningTellsRun}
-use Rattle.kat_laws.specs.Runs.{IsMachine, RegistersAreNamed, RunsKeepStates, Setup, run_in, TextTellsItsRun, BeginningTellsItsRun}
+use Rattle.kat_laws.specs.TextLaw.{IsOfMachine, TextTellsRun, BeginningTellsRun}
+use Rattle.kat_laws.specs.Runs.{IsMachine, MachinesHaveNames, RunsKeepStates, Setup, run_in, TextTellsItsRun, BeginningTellsItsRun}
 use Rattle.kat_laws.proofs.Clean.{few_declarations}
 
 module _ (stay : StatesStay) (fail : CyclesFailAtTrees) (spec : Spec) (machine : IsMachine spec)
@@ -77,13 +74,13 @@ of_machine : RunsKeepStates → (spec : Spec) (setup : Setup spec) → IsMachine
 of_machine runs spec setup machine = runs spec setup.calls setup.start setup.events machine
     setup.is_state setup.few
 
-pub text_tells_its_run : TextTellsRun → RegistersAreNamed → RunsKeepStates → TextTellsItsRun
-text_tells_its_run tells named runs spec first second machine shows e =
-    tells spec (run_in spec first) (run_in spec second) (named spec machine) shows
+pub text_tells_its_run : TextTellsRun → MachinesHaveNames → RunsKeepStates → TextTellsItsRun
+text_tells_its_run tells named runs spec first second machine e =
+    tells spec (run_in spec first) (run_in spec second) (named spec machine)
     (of_machine runs spec first machine) (of_machine runs spec second machine) e
 
-pub beginning_tells_its_run : BeginningTellsRun → RegistersAreNamed → RunsKeepStates →
+pub beginning_tells_its_run : BeginningTellsRun → MachinesHaveNames → RunsKeepStates →
     BeginningTellsItsRun
-beginning_tells_its_run tells named runs spec first second more other machine shows e =
-    tells spec (run_in spec first) (run_in spec second) more other (named spec machine) shows
+beginning_tells_its_run tells named runs spec first second more other machine e =
+    tells spec (run_in spec first) (run_in spec second) more other (named spec machine)
     (of_machine runs spec first machine) (of_machine runs spec second machine) e

@@ -1,5 +1,5 @@
 -- The state before an image is one of the machine.
-use Rattle.std.proofs.Common.{◌≡◌, ℕ, zero, suc, ◌+◌, ◌-◌, ◌&&◌, Bool, true, false, List, [], ◌∷◌, length, map, replicate, Option, None, Some, refl, sym, ap, subst, ◌∙◌}
+use Rattle.std.proofs.Common.{◌≡◌, ℕ, zero, suc, ◌+◌, ◌-◌, true, List, [], ◌∷◌, map, replicate, Option, None, Some, refl, ap, subst, ◌∙◌}
 use Rattle.std.specs.Prelude.{IfSome, IsTrue, slice_get, unwrap_or}
 use Rattle.std.specs.Option.{option_map}
 use Rattle.std.specs.List.{AllByRecursion}
@@ -16,10 +16,10 @@ use Rattle.kat_ast.specs.declared.decl.DeclForm.TheVariants as d
 use Rattle.kat_ast.specs.Spec.{Spec}
 use Rattle.kat_syntax.specs.declared.type_rule.TypeRule.TheVariants.{NoWidth}
 use Rattle.kat_syntax.specs.FirstTypeFault.{IsTyped}
-use Rattle.kat_syntax.specs.FirstValues.{first_by, firsts_with}
+use Rattle.kat_syntax.specs.FirstValues.{firsts_with}
 use Rattle.kat_syntax.specs.Memories.{Memory, memory_from}
-use Rattle.kat_syntax.specs.Start.{first_or_unit, start_of}
-use Rattle.kat_syntax.specs.States.{IsState, are_of_types, register_types, memory_of, cell_count}
+use Rattle.kat_syntax.specs.Start.{first_or_unit}
+use Rattle.kat_syntax.specs.States.{are_of_types, register_types, memory_of, cell_count}
 use Rattle.kat_syntax.specs.TypeTable.{NamesEarlierTypes, types_of_decls}
 use Rattle.kat_laws.specs.Runs.{IsMachine, StartsAreStates}
 use Rattle.kat_laws.proofs.Clean.{AreClean, empty_first, empty_second, inner_clean, met}

@@ -1,6 +1,5 @@
 -- What the digits of a text tell.
-use Rattle.std.proofs.Common.{◌≡◌, ◌≢◌, ℕ, zero, suc, ◌+◌, ◌/◌, ◌%◌, ◌^◌, ◌<◌, List, [], ◌∷◌, ◌++◌, length, get_or, drop, nat_lt, inl, inr, refl, sym, ap, ◌∙◌, arith}
-use Rattle.std.specs.List.{All}
+use Rattle.std.proofs.Common.{◌≡◌, ℕ, zero, suc, ◌+◌, ◌/◌, ◌%◌, ◌^◌, ◌<◌, ◌≤◌, List, [], ◌∷◌, ◌++◌, length, get_or, drop, nat_lt, inl, inr, refl, sym, ap, subst, ◌∙◌, arith}
 use Rattle.std.specs.Fmt.{decimal}
 use Rattle.std.proofs.Math.Nat.{div-lt_iff_lt-mul, mod-lt}
 use Rattle.std.proofs.lemmas.Bool.{cases_lt, cond-true, cond-false, lt-ltb, le-ltb}
@@ -9,6 +8,7 @@ use Rattle.std.proofs.lemmas.List.{length-append}
 use Rattle.std.proofs.lemmas.List.Elements.{All-head, All-tail, All-nil, All-cons, All-push}
 use Rattle.std.proofs.lemmas.Fmt.{decimal_by_steps, decimal_injective}
 use Rattle.kat_text.specs.Hexadecimal.{hex_digit, hex_digits}
+use Rattle.kat_laws.specs.TextLaw.{IsWord, first_of_words}
 
 -- two lists of one length are told apart from what follows them
 pub front_told : (xs ys r s : List ℕ) → length xs ≡ length ys → xs ++ r ≡ ys ++ s → (xs ≡ ys) ×
@@ -21,18 +21,24 @@ front_told (x ∷ xs) (y ∷ ys) r s len e =
     let rest = front_told xs ys r s (omega (arith, len)) (ap (drop 1) e) in
     (cc, rest.1)
 
--- what stands before the first b is told
-pub front_told_by : (b : ℕ) (xs ys r s : List ℕ) → All (λ x. x ≢ b) xs → All (λ x. x ≢ b) ys →
-    xs ++ b ∷ r ≡ ys ++ b ∷ s → (xs ≡ ys) × (r ≡ s)
-front_told_by b [] [] r s p q e = (refl, ap (drop 1) e)
-front_told_by b [] (y ∷ ys) r s p q e = absurd (All-head (λ x. x ≢ b) y ys q
-    (ap (λ l. get_or l 0 0) (sym e)))
-front_told_by b (x ∷ xs) [] r s p q e = absurd (All-head (λ x. x ≢ b) x xs p
-    (ap (λ l. get_or l 0 0) e))
-front_told_by b (x ∷ xs) (y ∷ ys) r s p q e =
+-- what stands here does not go on with a word
+abbrev pub Stops : List ℕ → Type 0
+Stops text = get_or text 0 0 < first_of_words
+
+-- a word is told apart from what stands behind it
+pub word_told : (xs ys r s : List ℕ) → IsWord xs → IsWord ys → Stops r → Stops s →
+    xs ++ r ≡ ys ++ s → (xs ≡ ys) × (r ≡ s)
+word_told [] [] r s p q f g e = (refl, e)
+word_told [] (y ∷ ys) r s p q f g e =
+    let low : y < 48 = subst (λ byte. byte < 48) (ap (λ l. get_or l 0 0) e) f in
+    absurd (omega (arith, low, All-head (λ byte. 48 ≤ byte) y ys q))
+word_told (x ∷ xs) [] r s p q f g e =
+    let low : x < 48 = subst (λ byte. byte < 48) (ap (λ l. get_or l 0 0) (sym e)) g in
+    absurd (omega (arith, low, All-head (λ byte. 48 ≤ byte) x xs p))
+word_told (x ∷ xs) (y ∷ ys) r s p q f g e =
     let head : x ≡ y = ap (λ l. get_or l 0 0) e in
-    let rest = front_told_by b xs ys r s (All-tail (λ x. x ≢ b) x xs p)
-    (All-tail (λ x. x ≢ b) y ys q) (ap (drop 1) e) in
+    let rest = word_told xs ys r s (All-tail (λ byte. 48 ≤ byte) x xs p)
+    (All-tail (λ byte. 48 ≤ byte) y ys q) f g (ap (drop 1) e) in
     (cc, rest.1)
 
 -- a digit tells its number
@@ -85,18 +91,18 @@ hex_digits_told (suc count) m n p q e =
     (mod-lt n (omega arith)) (ap (λ l. get_or l 0 0) parts.1) in
     omega (arith, div-add-mod' m 16, div-add-mod' n 16, high, low)
 
--- no digit is a space or a newline, nor anything else below `0`
-decimal_has_no : (b n : ℕ) → b < 48 → n < 2 ^ 64 → All (λ x. x ≢ b) (decimal n)
-decimal_has_no b n low small =
-    decimal_by_steps (λ n ds. All (λ x. x ≢ b) ds)
-    (λ m p. All-cons (λ x. x ≢ b) (48 + m) [] (λ e. omega (arith, e)) (All-nil (λ x. x ≢ b)))
-    (λ m ds p ih. All-push (λ x. x ≢ b) ds (48 + m % 10) ih (λ e. omega (arith, e)))
+-- the digits of a number are a word
+decimal_is_word : (n : ℕ) → n < 2 ^ 64 → IsWord (decimal n)
+decimal_is_word n small =
+    decimal_by_steps (λ n ds. IsWord ds)
+    (λ m p. All-cons (λ byte. 48 ≤ byte) (48 + m) [] (omega arith) (All-nil (λ byte. 48 ≤ byte)))
+    (λ m ds p ih. All-push (λ byte. 48 ≤ byte) ds (48 + m % 10) ih (omega arith))
     n small
 
--- a number in decimal digits is told where a space or a newline follows
-pub decimal_told : (b m n : ℕ) (r s : List ℕ) → b < 48 → m < 2 ^ 64 → n < 2 ^ 64 → decimal m ++ b ∷
-    r ≡ decimal n ++ b ∷ s → (m ≡ n) × (r ≡ s)
-decimal_told b m n r s low p q e =
-    let parts = front_told_by b (decimal m) (decimal n) r s (decimal_has_no b m low p)
-    (decimal_has_no b n low q) e in
+-- a number in decimal digits is told apart from what stands behind it
+pub decimal_told : (m n : ℕ) (r s : List ℕ) → m < 2 ^ 64 → n < 2 ^ 64 → Stops r → Stops s →
+    decimal m ++ r ≡ decimal n ++ s → (m ≡ n) × (r ≡ s)
+decimal_told m n r s p q f g e =
+    let parts = word_told (decimal m) (decimal n) r s (decimal_is_word m p) (decimal_is_word n q)
+    f g e in
     (decimal_injective m n p q parts.0, parts.1)

@@ -1,23 +1,17 @@
--- The registers with their types, and the states that a text shows whole.
-use Rattle.std.proofs.Common.{◌≡◌, ℕ, zero, suc, ◌+◌, ◌-◌, ◌&&◌, true, List, [], ◌∷◌, length, map, Option, Some, None, refl, sym, ap, subst, ◌∙◌, arith}
-use Rattle.std.specs.Prelude.{unwrap_or}
-use Rattle.std.specs.Option.{option_map}
-use Rattle.std.specs.List.{All, AllZip, AllByRecursion}
+-- The registers with their types.
+use Rattle.std.proofs.Common.{◌≡◌, ℕ, ◌+◌, true, List, [], ◌∷◌, map, refl, sym, ap, subst}
+use Rattle.std.specs.List.{AllZip}
 use Rattle.std.proofs.lemmas.Bool.{and_parts, false≢true}
 use Rattle.kat_value.specs.declared.types.Ty.{Ty}
 use Rattle.kat_value.specs.declared.types.TypeDecl.{TypeDecl}
 use Rattle.kat_value.specs.declared.value.Value.{Value}
-use Rattle.kat_value.specs.Typing.{has_type}
+use Rattle.kat_value.specs.Typing.{HasType, has_type}
 use Rattle.kat_ast.specs.declared.decl.DeclForm.{DeclForm}
 use Rattle.kat_ast.specs.declared.decl.DeclForm.TheVariants.{Register}
-use Rattle.kat_ast.specs.Spec.{Spec}
 use Rattle.kat_syntax.specs.Machine.{MachineState}
-use Rattle.kat_syntax.specs.Memories.{Memory}
-use Rattle.kat_syntax.specs.States.{IsState, are_of_types, register_types_from, register_types, memory_of, first_index, cell_count}
+use Rattle.kat_syntax.specs.States.{IsState, are_of_types, register_types_from}
 use Rattle.kat_syntax.specs.Tables.{Name, register_names}
 use Rattle.kat_syntax.specs.TypeTable.{named_type, types_of_decls}
-use Rattle.kat_laws.specs.TextLaw.{HasText, ShowsStates}
-use Rattle.kat_laws.proofs.TextValues.{IsTold}
 
 -- a register's name and type
 abbrev pub TypedRegister : Type 0
@@ -31,10 +25,10 @@ names_of registers = map (λ (register : TypedRegister). register.0) registers
 abbrev pub types_of : List TypedRegister → List Ty
 types_of registers = map (λ (register : TypedRegister). register.1) registers
 
--- one value for each register, of its type, which has a text
-abbrev pub AreTold : List TypeDecl → List TypedRegister → List Value → Type 0
-AreTold types registers values = AllZip (λ (register : TypedRegister) value. IsTold types register.1
-    value) registers values
+-- one value for each register, of its type
+abbrev pub AreOf : List TypeDecl → List TypedRegister → List Value → Type 0
+AreOf types registers values =
+    AllZip (λ (register : TypedRegister) value. HasType types register.1 value) registers values
 
 -- the registers of declarations, the first having the number k
 abbrev pub typed_from : List DeclForm → ℕ → List DeclForm → List TypedRegister
@@ -61,44 +55,20 @@ types_are all k (Register x type kind ∷ decls) = ap (λ types. named_type all 
     (types_are all (k + 1) decls)
 types_are all k (_ ∷ decls) = types_are all (k + 1) decls
 
--- a state of which the text shows all
-pub record IsToldState (spec : Spec) (state : MachineState) : Type 0 where
-  pub registers : AreTold (types_of_decls spec.decls) (typed_registers spec.decls) state.registers
-  pub first : state.lo ≡ first_index spec.decls
-  pub cells : state.cells ≡ []
-
-told_by : (types : List TypeDecl) (registers : List TypedRegister) (values : List Value) →
-    AllByRecursion HasText (types_of registers) →
-    are_of_types types (types_of registers) values ≡ true → AreTold types registers values
-told_by types [] [] text are = tt
-told_by types [] (value ∷ values) text are = absurd (false≢true are)
-told_by types (register ∷ registers) [] text are = absurd (false≢true are)
-told_by types (register ∷ registers) (value ∷ values) text are =
+are_of : (types : List TypeDecl) (registers : List TypedRegister) (values : List Value) →
+    are_of_types types (types_of registers) values ≡ true → AreOf types registers values
+are_of types [] [] are = tt
+are_of types [] (value ∷ values) are = absurd (false≢true are)
+are_of types (register ∷ registers) [] are = absurd (false≢true are)
+are_of types (register ∷ registers) (value ∷ values) are =
     let parts = and_parts (has_type types value register.1) (are_of_types types (types_of registers)
     values) are in
-    (record { text = text.0; typed = parts.0 }, told_by types registers values text.1 parts.1)
+    (parts.0, are_of types registers values parts.1)
 
-no_items : (xs : List ℕ) → length xs ≡ 0 → xs ≡ []
-no_items [] e = refl
-no_items (x ∷ xs) e = absurd (omega (arith, e))
-
-pub told_state : (spec : Spec) → ShowsStates spec → (state : MachineState) → IsState spec.decls
-    state → IsToldState spec state
-told_state spec shows state is =
-    let types = types_of_decls spec.decls in
-    let same = types_are spec.decls 0 spec.decls in
-    let none : cell_count spec.decls ≡ 0 =
-    ap (λ (m : Option Memory). unwrap_or (option_map (λ (memory : Memory). memory.hi - memory.lo) m)
-    0) shows.memory in
-    record {
-      registers = told_by types (typed_registers spec.decls) state.registers
-          (subst (AllByRecursion HasText) (sym same) shows.registers)
-          (subst (λ (tys : List Ty). are_of_types types tys state.registers ≡ true) (sym same)
-          is.registers);
-      first = is.first;
-      cells = no_items state.cells (is.count ∙ none);
-    }
-
-pub told_states : (spec : Spec) → ShowsStates spec → (states : List MachineState) →
-    All (IsState spec.decls) states → All (IsToldState spec) states
-told_states spec shows states are = λ k d within. told_state spec shows _ (are k d within)
+-- the registers of a state have values of their types
+pub registers_of_state : (decls : List DeclForm) (state : MachineState) → IsState decls state →
+    AreOf (types_of_decls decls) (typed_registers decls) state.registers
+registers_of_state decls state is =
+    are_of (types_of_decls decls) (typed_registers decls) state.registers
+    (subst (λ (tys : List Ty). are_of_types (types_of_decls decls) tys state.registers ≡ true)
+    (sym (types_are decls 0 decls)) is.registers)

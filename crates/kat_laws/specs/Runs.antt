@@ -9,7 +9,7 @@ use Rattle.kat_syntax.specs.Run.{Event, Run, run_of}
 use Rattle.kat_syntax.specs.Start.{start_of}
 use Rattle.kat_syntax.specs.States.{IsState}
 use Rattle.kat_runner.specs.StateText.{state_text_of}
-use Rattle.kat_laws.specs.TextLaw.{HasRegisterNames, ShowsStates, IsOfMachine}
+use Rattle.kat_laws.specs.TextLaw.{HasNames, IsOfMachine}
 
 -- a typed specification of the language's text
 pub record IsMachine (spec : Spec) : Type 0 where
@@ -20,9 +20,10 @@ pub record IsMachine (spec : Spec) : Type 0 where
 abbrev pub StartsAreStates : Type 0
 StartsAreStates = (spec : Spec) → IsMachine spec → IsState spec.decls (start_of spec)
 
--- the names of the registers are words and differ
-abbrev pub RegistersAreNamed : Type 0
-RegistersAreNamed = (spec : Spec) → IsMachine spec → HasRegisterNames spec
+-- the names of registers, members and constructors are words and differ, and the indices of the
+-- memory are below 2 ^ 64
+abbrev pub MachinesHaveNames : Type 0
+MachinesHaveNames = (spec : Spec) → IsMachine spec → HasNames spec
 
 -- a run over few enough events is one of the machine, from a state of the machine on and with any
 -- number of calls
@@ -45,19 +46,19 @@ pub record Setup (spec : Spec) : Type 0 where
 abbrev pub run_in : (spec : Spec) → Setup spec → Run
 run_in spec setup = run_of spec setup.calls setup.start setup.events
 
--- two runs of a machine whose text shows its states, that print the same text, are the same run
+-- two runs of a machine that print the same text are the same run
 abbrev pub TextTellsItsRun : Type 0
 TextTellsItsRun =
-    (spec : Spec) (first second : Setup spec) → IsMachine spec → ShowsStates spec →
+    (spec : Spec) (first second : Setup spec) → IsMachine spec →
     state_text_of spec (run_in spec first) ≡ state_text_of spec (run_in spec second) →
     run_in spec first ≡ run_in spec second
 
--- where the texts of two runs of such a machine begin one text, they are the same run, and so is
--- what follows
+-- where the texts of two runs of a machine begin one text, they are the same run, and so is what
+-- follows
 abbrev pub BeginningTellsItsRun : Type 0
 BeginningTellsItsRun =
     (spec : Spec) (first second : Setup spec) (more other : List ℕ) →
-    IsMachine spec → ShowsStates spec →
+    IsMachine spec →
     state_text_of spec (run_in spec first) ++ more
     ≡ state_text_of spec (run_in spec second) ++ other →
     (run_in spec first ≡ run_in spec second) × (more ≡ other)

@@ -1,40 +1,47 @@
 -- What the text of a run tells: the states at its boundaries, and its end.
-use Rattle.std.specs.Prelude.{◌≡◌, ◌≢◌, ◌<◌, ◌^◌, ℕ, List, [], ◌++◌, All, None}
+use Rattle.std.specs.Prelude.{◌≡◌, ◌<◌, ◌≤◌, ◌^◌, ◌+◌, ℕ, List, ◌++◌, All, map}
 use Rattle.std.specs.List.{AllByRecursion}
 use Rattle.kat_names.specs.Names.{AllDiffer}
-use Rattle.kat_value.specs.declared.types.Ty.{Ty}
-use Rattle.kat_value.specs.declared.types.Ty.TheVariants as ty
+use Rattle.kat_value.specs.declared.types.Field.{Field}
+use Rattle.kat_value.specs.declared.types.TypeDecl.{TypeDecl}
+use Rattle.kat_value.specs.declared.types.TypeDecl.TheVariants.{Enum, Union as UnionType, Rec}
 use Rattle.kat_ast.specs.Spec.{Spec}
 use Rattle.kat_syntax.specs.Tables.{Name, register_names}
-use Rattle.kat_syntax.specs.States.{IsState, memory_of, register_types}
+use Rattle.kat_syntax.specs.States.{IsState, first_index, cell_count}
+use Rattle.kat_syntax.specs.TypeTable.{types_of_decls}
 use Rattle.kat_syntax.specs.Run.{Run, RunEnd, Ended, OutIn, FailedIn}
 use Rattle.kat_runner.specs.StateText.{state_text_of}
 
--- the byte of a space
-abbrev pub space : ℕ
-space = 32
+-- the byte of the digit 0: blanks, newlines and brackets are below it
+abbrev pub first_of_words : ℕ
+first_of_words = 48
 
--- a name is one word: no byte of it is a space
+-- a name is one word: no byte of it is a blank, a newline or a bracket
 abbrev pub IsWord : Name → Type 0
-IsWord name = All (λ byte. byte ≢ space) name
+IsWord name = All (λ byte. first_of_words ≤ byte) name
 
--- the names of the registers are words and differ
-pub record HasRegisterNames (spec : Spec) : Type 0 where
-  pub words : All IsWord (register_names spec.decls)
-  pub distinct : AllDiffer (register_names spec.decls)
+-- names are words and differ
+pub record AreNames (names : List Name) : Type 0 where
+  pub words : All IsWord names
+  pub distinct : AllDiffer names
 
--- a type whose values have a text: unit, bool or bits
-abbrev pub HasText : Ty → Type 0
-HasText ty.Unit = Unit {0}
-HasText ty.Bool = Unit {0}
-HasText (ty.Bits width) = Unit {0}
-HasText _ = ⊥
+-- the names of constructors or fields
+abbrev pub names_of_parts : List Field → List Name
+names_of_parts parts = map (λ (part : Field). part.name) parts
 
--- the text shows all of a state: each register is of a type whose values have a text, and there is
--- no memory
-pub record ShowsStates (spec : Spec) : Type 0 where
-  pub registers : AllByRecursion HasText (register_types spec.decls)
-  pub memory : memory_of spec.decls ≡ None
+-- the names that tell the values of a declared type: those of an enum's members, or of a union's
+-- constructors
+abbrev pub HasValueNames : TypeDecl → Type 0
+HasValueNames (Enum x members) = AreNames members
+HasValueNames (UnionType x ctors) = AreNames (names_of_parts ctors)
+HasValueNames (Rec x fields) = Unit {0}
+
+-- the names of the registers, of the members of an enum and of the constructors of a union are
+-- words and differ, and the indices of the memory are below 2 ^ 64
+pub record HasNames (spec : Spec) : Type 0 where
+  pub registers : AreNames (register_names spec.decls)
+  pub types : AllByRecursion HasValueNames (types_of_decls spec.decls)
+  pub indices : first_index spec.decls + cell_count spec.decls ≤ 2 ^ 64
 
 -- the numbers of an end are below 2 ^ 64
 abbrev pub IsWithinWords : RunEnd → Type 0
@@ -51,7 +58,7 @@ pub record IsOfMachine (spec : Spec) (run : Run) : Type 0 where
 -- two runs of one machine that print the same text have the same boundary states and the same end
 abbrev pub TextTellsRun : Type 0
 TextTellsRun =
-    (spec : Spec) (first second : Run) → HasRegisterNames spec → ShowsStates spec →
+    (spec : Spec) (first second : Run) → HasNames spec →
     IsOfMachine spec first → IsOfMachine spec second →
     state_text_of spec first ≡ state_text_of spec second → first ≡ second
 
@@ -60,6 +67,6 @@ TextTellsRun =
 abbrev pub BeginningTellsRun : Type 0
 BeginningTellsRun =
     (spec : Spec) (first second : Run) (more other : List ℕ) →
-    HasRegisterNames spec → ShowsStates spec → IsOfMachine spec first → IsOfMachine spec second →
+    HasNames spec → IsOfMachine spec first → IsOfMachine spec second →
     state_text_of spec first ++ more ≡ state_text_of spec second ++ other →
     (first ≡ second) × (more ≡ other)

@@ -8,5 +8,5 @@ mod runs;
 mod text;
 
 pub use images::images_are_states;
-pub use runs::{registers_are_named, runs_keep_states, starts_are_states, text_tells_its_run};
+pub use runs::{machines_have_names, runs_keep_states, starts_are_states, text_tells_its_run};
 pub use text::{text_tells_its_end, text_tells_states};

@@ -8,9 +8,10 @@ use kat_value::equality_is_tested;
 /// how the run ended: two runs of one machine that print the same text have the same boundary
 /// states and the same end.
 ///
-/// This is said of machines without memory whose registers are unit, bool or bits and have distinct
-/// names, each without a space, and of states of the machine; the numbers of a fault are below
-/// 2^64.
+/// Registers may be of every type, and there may be a memory: the first boundary shows each
+/// register and each cell that is not zero. This is said of states of the machine; registers, the
+/// members of an enum and the constructors of a union have distinct names, each one word, and
+/// indices and the numbers of a fault are below 2^64.
 pub fn text_tells_states()
     ensures { TextTellsRun }
 {

@@ -3,8 +3,10 @@ use Rattle.kat_laws.proofs.runs.text_tells_its_run.Goals as goal
 
 pub returns-clause-whole : goal.returns-clause-whole
 returns-clause-whole c =
-    text_tells_its_run c.text_tells_states.ensures c.registers_are_named.ensures c.runs_keep_states.ensures
+    text_tells_its_run c.text_tells_states.ensures c.machines_have_names.ensures
+    c.runs_keep_states.ensures
 
 pub returns-clause-beginning : goal.returns-clause-beginning
 returns-clause-beginning c =
-    beginning_tells_its_run c.text_tells_its_end.ensures c.registers_are_named.ensures c.runs_keep_states.ensures
+    beginning_tells_its_run c.text_tells_its_end.ensures c.machines_have_names.ensures
+    c.runs_keep_states.ensures
