@@ -9,3 +9,8 @@ mod Insecure
 mod Counter
 mod Judged
 mod Cuts
+mod Faultless
+mod OutsideCells
+mod OutsideRegisters
+mod OutsidePhase
+mod Outside

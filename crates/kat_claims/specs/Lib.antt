@@ -4,5 +4,6 @@ pub mod Assertions
 pub mod Machines
 pub mod Counter
 pub mod Names
+pub mod Outside
 pub mod Runs
 pub mod Security

@@ -4,10 +4,11 @@ ghost use Rattle.kat_claims.specs.Assertions.{HoldersAreFragments};
 ghost use Rattle.kat_claims.specs.Budgets.{FewerCallsMeet};
 ghost use Rattle.kat_claims.specs.Fragments.{JoinsAreUnions};
 ghost use Rattle.kat_claims.specs.Names.{OnlyNamesReadCount};
+ghost use Rattle.kat_claims.specs.Outside.{OutsideWritesKeep};
 ghost use Rattle.kat_claims.specs.Runs.{RunsGoByEvents};
 ghost use Rattle.kat_claims.specs.Security.{MachinesAreJudged};
 
-use kat_syntax::calls_are_spent;
+use kat_syntax::{calls_are_spent, what_changes};
 
 /// The union of disjoint fragments does not depend on their order or grouping, has nothing as its
 /// unit, and is determined by its parts.
@@ -33,6 +34,14 @@ pub fn holders_have_places()
 pub fn only_names_read_count()
     ensures { OnlyNamesReadCount }
 {}
+
+/// What is written from outside is no part of what security speaks of: in a typed specification such
+/// a write changes neither the phase nor the kept values, and no code cell.
+pub fn outside_writes_keep()
+    ensures { OutsideWritesKeep }
+{
+    what_changes();
+}
 
 /// A run that ended in a cycle is the same with more events, and one whose events are cut off at a
 /// cycle keeps what a run of a secure specification does.
