@@ -10,4 +10,5 @@ mod RegisterTables
 mod MemberTables
 mod LayerTables
 mod TypedReads
+mod FailingBodies
 mod TypedRuns

@@ -15,12 +15,12 @@ use Rattle.kat_ast.specs.Spec.{Spec}
 use Rattle.kat_syntax.specs.declared.type_rule.TypeRule.TheVariants.{NameUnknown, NotOnce}
 use Rattle.kat_syntax.specs.declared.places.Poke.{Poke}
 use Rattle.kat_syntax.specs.Around.{Around, FunctionSeen, a_function, meant}
-use Rattle.kat_syntax.specs.Cycle.{Completed, OutOfCalls, FailedAt, CycleOutcome, body_of, bound, call_of, cycle_of, progress_at, spend_one, step_call}
+use Rattle.kat_syntax.specs.Cycle.{Completed, OutOfCalls, FailedAt, CycleOutcome, as_cycle, body_of, bound, call_of, cycle_of, progress_at, spend_one, step_call, stuck_place}
 use Rattle.kat_syntax.specs.Evaluation.{Locals}
 use Rattle.kat_syntax.specs.Meaning.{meaning}
 use Rattle.kat_syntax.specs.Declares.{TypedName, declared_by, look_up, types_of}
 use Rattle.kat_syntax.specs.Machine.{MachineState, Progress}
-use Rattle.kat_syntax.specs.MeaningLaws.{StatesStay, StuckCyclesFailAtADeclaration}
+use Rattle.kat_syntax.specs.MeaningLaws.{StatementsByParts, StatesStay}
 use Rattle.kat_syntax.specs.Outcomes.{Outcome, Done, Out, Fail, Stuck, at_site, given, inside, place_in}
 use Rattle.kat_syntax.specs.OutsideWrites.{Poked, Wrote, NoPlace, NoFit, poked}
 use Rattle.kat_syntax.specs.Run.{Event, Cycle, OutsideWrite, Run, RunEnd, Ended, FailedIn, OutIn, after_cycle, run_from, run_of, state_behind, with_boundary}
@@ -33,10 +33,12 @@ use Rattle.kat_syntax.specs.FirstTypeFault.{missing_faults}
 use Rattle.kat_syntax.specs.TypingExpressions.{unknown}
 use Rattle.kat_laws.specs.Runs.{IsMachine}
 use Rattle.kat_safety.specs.NeverStuck.{CallsAreNotStuck, CyclesAreNotStuck, ExpressionsHaveValues, NeverStuckFrom, RunsAreNotStuck, RunsFailInBodies, StatementsAreNotStuck}
+use Rattle.kat_safety.specs.Failing.{FailsInBody}
 use Rattle.kat_safety.specs.Typed.{IsOfKnown}
 use Rattle.kat_safety.proofs.Clean.{AreClean, empty_first, empty_second, inner_clean, met}
 use Rattle.kat_safety.proofs.TypedStatements.{Gives}
 use Rattle.kat_safety.proofs.TypedCalls.{calls_give, keeps, statement_gives}
+use Rattle.kat_safety.proofs.FailingBodies.{IsPlaced, calls_placed}
 use Rattle.kat_safety.proofs.LayerTables.{tables_of}
 
 -- nothing that has to stand once is missing
@@ -208,14 +210,30 @@ module _ (shown : ShownTypes) (units : UnitIsUnit) (truths : BoolIsTruths) (bits
   runs_are spec n start events machine is =
       (never_from spec n start events machine is, boundaries_from spec n 0 start events is)
 
-  module _ (stuck : StuckCyclesFailAtADeclaration) where
-    positive : (m : ℕ) → m ≢ 0 → 0 < m
-    positive zero other = absurd (other refl)
-    positive (suc m) other = omega arith
+  module _ (counts : StatementsByParts) where
+    -- a cycle fails in a body
+    cycle_fails : (spec : Spec) (n : ℕ) (state : MachineState) (place : Place) → IsMachine spec →
+        IsState spec.decls state → cycle_of spec n state ≡ FailedAt place →
+        FailsInBody spec.decls place
+    cycle_fails spec n state place machine is e =
+        by (step_call spec n state) (step_gives spec n state machine is)
+        (called (step_of spec.decls)) e where
+          called : (o : Option Name) → IsPlaced spec.decls
+              (given o (λ f. call_of spec.decls n f [] (progress_at n state)))
+          called None = tt
+          called (Some f) = calls_placed counts spec.decls n f [] (progress_at n state)
+
+          by : (o : Outcome Place) → o ≢ Stuck → IsPlaced spec.decls o →
+              as_cycle (stuck_place spec.decls) o ≡ FailedAt place → FailsInBody spec.decls place
+          by (Done v p) never placed same = absurd (cc)
+          by Out never placed same = absurd (cc)
+          by (Fail other) never placed same =
+              let here : other ≡ place = cc in subst (FailsInBody spec.decls) here placed
+          by Stuck never placed same = absurd (never refl)
 
     fails_from : (spec : Spec) (n c cycle : ℕ) (state : MachineState) (events : List Event)
         (place : Place) → IsMachine spec → IsState spec.decls state →
-        (run_from spec n c state events).end ≡ FailedIn cycle place → 0 < place.tree
+        (run_from spec n c state events).end ≡ FailedIn cycle place → FailsInBody spec.decls place
     fails_from spec n c cycle state [] place machine is e = absurd (cc)
     fails_from spec n c cycle state (Cycle ∷ events) place machine is e =
         by (cycle_of spec n state) refl
@@ -224,16 +242,15 @@ module _ (shown : ShownTypes) (units : UnitIsUnit) (truths : BoolIsTruths) (bits
       where
         by : (o : CycleOutcome) → cycle_of spec n state ≡ o →
             ((p : Progress) → cycle_of spec n state ≡ Completed p →
-            (run_from spec n (c + 1) p.state events).end ≡ FailedIn cycle place → 0 < place.tree) →
+            (run_from spec n (c + 1) p.state events).end ≡ FailedIn cycle place →
+            FailsInBody spec.decls place) →
             (after_cycle (c + 1) o (λ next. run_from spec n (c + 1) next events)).end
-            ≡ FailedIn cycle place → 0 < place.tree
+            ≡ FailedIn cycle place → FailsInBody spec.decls place
         by (Completed p) done rest same = rest p done same
         by OutOfCalls done rest same = absurd (cc)
         by (FailedAt other) done rest same =
             let here : other ≡ place = cc in
-            subst (λ (q : Place). 0 < q.tree) here
-            (positive other.tree (λ none. step_gives spec n state machine is
-            ((stuck spec n state other done).0 none)))
+            subst (FailsInBody spec.decls) here (cycle_fails spec n state other machine is done)
     fails_from spec n c cycle state (OutsideWrite poke ∷ events) place machine is e =
         fails_from spec n c cycle (state_behind state (poked spec poke state)) events place machine
         (behind_write spec poke state is) e

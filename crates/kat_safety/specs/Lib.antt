@@ -1,2 +1,3 @@
 pub mod Typed
 pub mod NeverStuck
+pub mod Failing

@@ -1,5 +1,5 @@
 -- A typed machine is never stuck: what typing knows of a form is what the meaning gives.
-use Rattle.std.specs.Prelude.{◌≡◌, ◌≢◌, ◌<◌, ℕ, true, List, [], ◌∷◌, Option, Some}
+use Rattle.std.specs.Prelude.{◌≡◌, ◌≢◌, ℕ, true, List, [], ◌∷◌, Option, Some}
 use Rattle.std.specs.List.{AllByRecursion, AllZip}
 use Rattle.kat_value.specs.declared.types.Ty.{Ty}
 use Rattle.kat_value.specs.declared.value.Value.{Value}
@@ -26,6 +26,7 @@ use Rattle.kat_syntax.specs.TypeTable.{types_of_decls}
 use Rattle.kat_syntax.specs.TypingExpressions.{Known, Standing, known_of_expr}
 use Rattle.kat_syntax.specs.TypingStatements.{known_of_stm}
 use Rattle.kat_laws.specs.Runs.{IsMachine}
+use Rattle.kat_safety.specs.Failing.{FailsInBody}
 use Rattle.kat_safety.specs.Typed.{IsOfKnown, HasKnownValue, AreOfScope, AreReadsOf}
 
 -- the declaration of this number among those of a specification
@@ -107,10 +108,10 @@ RunsAreNotStuck =
     NeverStuckFrom spec n start events
     × AllByRecursion (IsState spec.decls) (run_of spec n start events).boundaries
 
--- so a run fails only at a tree of a body, and never at a declaration itself, where cycles fail that
--- are stuck
+-- so a run fails only in a body, at a `fail`, a `check`, a `load` or a `store`, and its place is the
+-- tree of that statement
 abbrev pub RunsFailInBodies : Type 0
 RunsFailInBodies =
     (spec : Spec) (n cycle : ℕ) (start : MachineState) (events : List Event) (place : Place) →
     IsMachine spec → IsState spec.decls start →
-    (run_of spec n start events).end ≡ FailedIn cycle place → 0 < place.tree
+    (run_of spec n start events).end ≡ FailedIn cycle place → FailsInBody spec.decls place

@@ -2,7 +2,7 @@
 
 ghost use Rattle.kat_safety.specs.NeverStuck.{ExpressionsHaveValues, StatementsAreNotStuck, CallsAreNotStuck, CyclesAreNotStuck, RunsAreNotStuck, RunsFailInBodies};
 
-use kat_syntax::{states_stay, stuck_cycles_fail, types_name_earlier_ones};
+use kat_syntax::{statements_do_their_parts, states_stay, types_name_earlier_ones};
 use kat_value::{operations_are_exact, types_of_values, values_show_types};
 
 /// An expression without faults of typing has a value of its type, in a statement or a condition
@@ -50,7 +50,7 @@ pub fn cycles_are_not_stuck()
 }
 
 /// No run is stuck, over any cycles and outside writes, from a state of the machine on: so it fails
-/// at a tree of a body, and never at a declaration itself.
+/// at a `fail`, a `check`, a `load` or a `store` of a body, at the tree that is named.
 pub fn runs_are_not_stuck()
     ensures never { RunsAreNotStuck }
     ensures fails { RunsFailInBodies }
@@ -59,5 +59,5 @@ pub fn runs_are_not_stuck()
     values_show_types();
     types_of_values();
     states_stay();
-    stuck_cycles_fail();
+    statements_do_their_parts();
 }

@@ -9,4 +9,4 @@ returns-clause-never c =
 pub returns-clause-fails : goal.returns-clause-fails
 returns-clause-fails c =
     runs_fail c.values_show_types.ensures c.types_of_values.ensures.unit c.types_of_values.ensures.truths
-    c.types_of_values.ensures.numbers c.typed_expressions_have_values.ensures c.states_stay.ensures c.stuck_cycles_fail.ensures
+    c.types_of_values.ensures.numbers c.typed_expressions_have_values.ensures c.states_stay.ensures c.statements_do_their_parts.ensures
