@@ -17,4 +17,5 @@ mod unbound;
 mod values;
 
 pub use checking::{ModeError, check_modes};
+pub use first::{ModeFault, first_mode_fault};
 pub use laws::moded_names_are_bound;

@@ -7,17 +7,13 @@ use Rattle.kat_tree.specs.declared.error.TreeError.{TreeError}
 use Rattle.kat_tree.specs.declared.error.TreeError.TheVariants as tree
 use Rattle.kat_forms.specs.declared.error.FormError.{FormError}
 use Rattle.kat_forms.specs.declared.error.FormError.TheVariants as form
-use Rattle.kat_typing.specs.declared.checking.TypeError.{TypeError}
-use Rattle.kat_typing.specs.declared.checking.TypeError.TheVariants as typing
 use Rattle.kat_top.specs.declared.fault.Fault.{Fault}
 use Rattle.kat_top.specs.declared.fault.Fault.TheVariants as fault
 use Rattle.kat_top.specs.declared.fault.TreeKind.TheVariants.{NotText, Unclosed, Stray, BadToken, Deep}
 use Rattle.kat_top.specs.declared.inputs.InputError.{InputError}
 use Rattle.kat_top.specs.declared.inputs.InputError.TheVariants as why
 use Rattle.kat_ast.specs.Spec.{Spec}
-use Rattle.kat_syntax.specs.FirstTypeFault.{IsTyped}
-use Rattle.kat_syntax.specs.Modes.{IsModed}
-use Rattle.kat_top.specs.Inputs.{Name, Kind, Input, Thing, IsNotModed, IsReadAs, IsRefusedAs}
+use Rattle.kat_top.specs.Inputs.{Name, Kind, Input, Thing, IsNotModed, IsNotTyped, IsReadAs, IsRefusedAs, IsTypedAndModed}
 use Rattle.kat_top.specs.Limits.{most_bytes}
 
 -- a read, as files note it: the name and the limit
@@ -122,12 +118,17 @@ ComesOf earlier kind bytes (Ok thing) = IsReadAs earlier kind bytes thing
 ComesOf earlier kind bytes (Err (why.Fault said)) = IsRefusedAs earlier kind bytes said
 ComesOf earlier kind bytes (Err why.Memory) = Unit {0}
 
--- what a typed specification is taken as that is to be moded too: it is, or the fault is its first
--- one of modes, or memory ran out
-abbrev pub IsModedOr : Spec → Result Spec InputError → Type 0
-IsModedOr spec (Ok moded) = (moded ≡ spec) × IsModed spec
-IsModedOr spec (Err (why.Fault said)) = IsTyped spec → IsNotModed spec said
-IsModedOr spec (Err why.Memory) = Unit {0}
+-- what a specification is judged as that is to be typed and moded: it is, or the fault is its first
+-- one, or memory ran out
+abbrev pub IsJudged : Spec → Result Unit InputError → Type 0
+IsJudged spec (Ok done) = IsTypedAndModed spec
+IsJudged spec (Err (why.Fault said)) = IsNotTyped spec said ⊎ IsNotModed spec said
+IsJudged spec (Err why.Memory) = Unit {0}
+
+-- what came is this specification, or memory ran out
+abbrev pub IsThisOrMemory : Spec → Result Spec InputError → Type 0
+IsThisOrMemory spec (Ok moded) = moded ≡ spec
+IsThisOrMemory spec (Err error) = error ≡ why.Memory
 
 -- an error is this fault, or memory ran out
 abbrev pub IsFaultOrMemory : Fault → InputError → Type 0
@@ -147,11 +148,6 @@ error_of_tree tree.Memory = why.Memory
 abbrev pub error_of_form : FormError → InputError
 error_of_form (form.Wanted place wanted) = why.Fault (fault.Form place wanted)
 error_of_form form.Memory = why.Memory
-
--- the error of a specification that is not typed
-abbrev pub error_of_type : TypeError → InputError
-error_of_type (typing.Code decl tree rule) = why.Fault (fault.IllTyped decl tree rule)
-error_of_type typing.Memory = why.Memory
 
 -- the bytes of what came, as a list
 abbrev pub items_of : Result (Vec ℕ) InputError → Result (List ℕ) InputError

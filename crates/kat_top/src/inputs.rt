@@ -1,23 +1,24 @@
 //! The inputs of a job: each is asked for by one read, and then judged by its bytes and by what was
 //! read before it.
 
-ghost use Rattle.std.specs.Prelude.{◌≡◌, ◌≤◌, length, List, Some};
+ghost use Rattle.std.specs.Prelude.{◌≡◌, ◌≤◌, length, IfOk, List, Some};
 ghost use Rattle.kat_top.specs.declared.fault.Fault.TheVariants as fault;
-ghost use Rattle.kat_top.specs.Inputs.{Thing, ASpec, AModed, AnImage, TheSpec, TheModed, TheState, machine_of};
+ghost use Rattle.kat_syntax.specs.FirstTypeFault.{IsTyped};
+ghost use Rattle.kat_top.specs.Inputs.{Thing, ASpec, AModed, AnImage, IsTypedAndModed, TheSpec, TheModed, TheState, machine_of};
 ghost use Rattle.kat_top.specs.Limits.{most_bytes};
 ghost use Rattle.kat_top.specs.Jobs.{input};
-ghost use Rattle.kat_top.specs.Loading.{IsFaultOrMemory, ComesOf, IsModedOr, Loads, LoadsBytes, error_of_form, error_of_tree, error_of_type, items_of, as_thing};
+ghost use Rattle.kat_top.specs.Loading.{IsFaultOrMemory, IsJudged, IsThisOrMemory, ComesOf, Loads, LoadsBytes, error_of_form, error_of_tree, items_of, as_thing};
 
 use crate::fault::{Fault, TreeKind};
 use kat_forms::{FormError, read_spec};
 use kat_image::{ImageError, read_image};
 use kat_io::{Files, ReadError};
-use kat_mode::{ModeError, check_modes};
+use kat_mode::{ModeFault, first_mode_fault};
 use kat_state::State;
-use kat_syntax::{Checked, Moded, Spec};
+use kat_syntax::{Checked, Moded, Spec, first_faults_are_least};
 use kat_text::Text;
 use kat_tree::{TreeError, places, read_tree, spelled_is_writable, trees_fit_their_text};
-use kat_typing::{TypeError, check};
+use kat_typing::{TypeFault, first_type_fault};
 use std::alloc::Global;
 
 /// How many bytes of a file are read.
@@ -44,7 +45,20 @@ pub fn load_spec<F: Files>(alloc: Global, files: &mut F, name: &str) -> Result<S
     }
 }
 
-/// The typed and moded specification, or machine, that a file stands for.
+/// The typed and moded specification that a file stands for, as it is judged: its tables, which a
+/// run alone asks, are not made.
+pub fn load_judged<F: Files>(alloc: Global, files: &mut F, name: &str) -> Result<Spec, InputError>
+    ensures { (earlier : List Thing) →
+        Loads earlier (input AModed name.now) (as_thing TheModed result)
+        (F.seen files.old) (F.seen files.new) }
+{
+    match load(alloc, files, name) {
+        Ok(bytes) => judged_of_text(alloc, bytes.as_slice()),
+        Err(error) => Err(error),
+    }
+}
+
+/// The typed and moded specification, or machine, that a file stands for, with its tables.
 pub fn load_moded<F: Files>(alloc: Global, files: &mut F, name: &str) -> Result<Moded, InputError>
     ensures { (earlier : List Thing) →
         Loads earlier (input AModed name.now) (as_thing TheModed result)
@@ -125,31 +139,70 @@ fn spec_of(alloc: Global, text: &[u8]) -> Result<Spec, InputError>
     }
 }
 
-/// What a text is read as that is to be a typed and moded specification.
+/// What a text is read as that is to be a typed and moded specification with its tables.
 fn moded_of_text(alloc: Global, text: &[u8]) -> Result<Moded, InputError>
     requires { length text.now ≤ most_bytes }
     ensures { (earlier : List Thing) →
         ComesOf earlier AModed text.now (as_thing TheModed result) }
 {
+    match judged_of_text(alloc, text) {
+        Ok(spec) => with_tables(alloc, spec),
+        Err(error) => Err(error),
+    }
+}
+
+/// A typed and moded specification with its tables; the error is want of memory.
+fn with_tables(alloc: Global, spec: Spec) -> Result<Moded, InputError>
+    requires { IsTypedAndModed spec }
+    ensures { IsThisOrMemory spec result }
+{
+    match Checked::new(alloc, spec) {
+        Ok(checked) => Ok(Moded::new(checked)),
+        Err(_) => Err(InputError::Memory),
+    }
+}
+
+/// What a text is read as that is to be a typed and moded specification.
+fn judged_of_text(alloc: Global, text: &[u8]) -> Result<Spec, InputError>
+    requires { length text.now ≤ most_bytes }
+    ensures comes { (earlier : List Thing) →
+        ComesOf earlier AModed text.now (as_thing TheModed result) }
+    ensures passes { IfOk result IsTypedAndModed }
+{
     match spec_of(alloc, text) {
-        Ok(spec) => match check(alloc, spec) {
-            Ok(checked) => moded_of(alloc, checked),
-            Err(error) => Err(InputError::of_type(error)),
+        Ok(spec) => match judge_types(alloc, &spec) {
+            Ok(()) => Ok(spec),
+            Err(error) => Err(error),
         },
         Err(error) => Err(error),
     }
 }
 
-/// What a typed specification is taken as that is to be moded too.
-fn moded_of(alloc: Global, checked: Checked) -> Result<Moded, InputError>
-    ensures { IsModedOr checked result }
+/// Judges a specification that is to be typed and moded; the error is its first fault.
+fn judge_types(alloc: Global, spec: &Spec) -> Result<(), InputError>
+    ensures { IsJudged spec.now result }
 {
-    match check_modes(alloc, checked) {
-        Ok(moded) => Ok(moded),
-        Err(ModeError::Unbound { decl, name }) => {
+    first_faults_are_least();
+    match first_type_fault(alloc, spec) {
+        Ok(None) => judge_modes(alloc, spec),
+        Ok(Some(TypeFault { decl, tree, rule })) => {
+            Err(InputError::Fault(Fault::IllTyped { decl, tree, rule }))
+        }
+        Err(_) => Err(InputError::Memory),
+    }
+}
+
+/// Judges a typed specification that is to be moded too; the error is its first fault.
+fn judge_modes(alloc: Global, spec: &Spec) -> Result<(), InputError>
+    requires { IsTyped spec.now }
+    ensures { IsJudged spec.now result }
+{
+    match first_mode_fault(alloc, spec) {
+        Ok(None) => Ok(()),
+        Ok(Some(ModeFault { decl, name })) => {
             Err(InputError::Fault(Fault::IllModed { decl, name }))
         }
-        Err(ModeError::Memory) => Err(InputError::Memory),
+        Err(_) => Err(InputError::Memory),
     }
 }
 
@@ -188,18 +241,6 @@ impl InputError {
         match error {
             FormError::Wanted { place, wanted } => InputError::Fault(Fault::Form { place, wanted }),
             FormError::Memory => InputError::Memory,
-        }
-    }
-
-    /// Of a specification that is not typed.
-    fn of_type(error: TypeError) -> InputError
-        ensures { result ≡ error_of_type error }
-    {
-        match error {
-            TypeError::Code { decl, tree, rule } => {
-                InputError::Fault(Fault::IllTyped { decl, tree, rule })
-            }
-            TypeError::Memory => InputError::Memory,
         }
     }
 }

@@ -7,7 +7,7 @@ ghost use Rattle.kat_top.specs.Given.{Answered};
 ghost use Rattle.kat_top.specs.Jobs.{answer_of_run};
 
 use crate::fault::Fault;
-use crate::inputs::{load_image, load_moded, load_spec};
+use crate::inputs::{load_image, load_judged, load_moded, load_spec};
 use crate::say::{refuse, say_canonical, say_fault, say_typed};
 use crate::status::Status;
 use kat_io::{Files, Sink};
@@ -27,8 +27,8 @@ pub fn check_file<F: Files, K: Sink>(
     ensures { Answered (Some (job.Check spec.now)) (F.seen files.old) (F.seen files.new)
         result (K.seen out.old) (K.seen out.new) }
 {
-    match load_moded(alloc, files, spec.as_str()) {
-        Ok(found) => say_typed(alloc, out, found.checked().spec()),
+    match load_judged(alloc, files, spec.as_str()) {
+        Ok(found) => say_typed(alloc, out, &found),
         Err(error) => refuse(alloc, out, error),
     }
 }

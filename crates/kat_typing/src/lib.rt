@@ -14,3 +14,4 @@ mod once;
 mod phases;
 
 pub use checking::{TypeError, check};
+pub use first::{TypeFault, first_type_fault};
