@@ -6,6 +6,8 @@ mod forms;
 #[cfg(test)]
 mod images;
 #[cfg(test)]
+mod machines;
+#[cfg(test)]
 mod modes;
 #[cfg(test)]
 mod tests;

@@ -98,35 +98,17 @@ fn agrees(alloc: Global, row: &Row<'_>) -> Result<bool, AllocError> {
     Ok(status == row.status && out.contents() == row.text.as_bytes())
 }
 
-/// Whether a run of the machine that counts to three answers so, from 1.
-fn count_agrees(
+/// Whether a run of a machine from an image answers so.
+pub(crate) fn run_agrees(
     alloc: Global,
     words: &str,
-    status: Status,
-    text: &str,
-) -> Result<bool, AllocError> {
-    let row = Row {
-        words,
-        spec: TO_THREE.as_bytes(),
-        image: "reg n 0x01\n",
-        failing_read: 0,
-        failing_write: 0,
-        status,
-        text,
-    };
-    agrees(alloc, &row)
-}
-
-/// Whether one cycle of a machine from an image, with three calls, is answered so.
-fn one_cycle_agrees(
-    alloc: Global,
     spec: &str,
     image: &str,
     status: Status,
     text: &str,
 ) -> Result<bool, AllocError> {
     let row = Row {
-        words: "run s i --cycles 1 --calls 3",
+        words,
         spec: spec.as_bytes(),
         image,
         failing_read: 0,
@@ -153,16 +135,8 @@ pub(crate) fn image_agrees(
     image: &str,
     text: &str,
 ) -> Result<bool, AllocError> {
-    let row = Row {
-        words: "run s i --cycles 0 --calls 1",
-        spec: spec.as_bytes(),
-        image,
-        failing_read: 0,
-        failing_write: 0,
-        status: Status::Form,
-        text,
-    };
-    agrees(alloc, &row)
+    let words = "run s i --cycles 0 --calls 1";
+    run_agrees(alloc, words, spec, image, Status::Form, text)
 }
 
 /// Words, and what the program answers to them.
@@ -215,7 +189,7 @@ const RUNS: &[(&str, Status, &str)] = &[
 #[test]
 fn runs_write_their_states(rt: HostRuntime) -> Result<(), Fail> {
     for (words, status, text) in RUNS {
-        let agrees = count_agrees(rt.alloc(), words, *status, text)?;
+        let agrees = run_agrees(rt.alloc(), words, TO_THREE, "reg n 0x01\n", *status, text)?;
         assert!(rt; agrees, "at {words}");
     }
     Ok(())
@@ -239,7 +213,8 @@ const IMAGES: &[(&str, &str, Status, &str)] = &[
 #[test]
 fn images_are_read(rt: HostRuntime) -> Result<(), Fail> {
     for (spec, image, status, text) in IMAGES {
-        let agrees = one_cycle_agrees(rt.alloc(), spec, image, *status, text)?;
+        let words = "run s i --cycles 1 --calls 3";
+        let agrees = run_agrees(rt.alloc(), words, spec, image, *status, text)?;
         assert!(rt; agrees, "at {spec} with {image}");
     }
     Ok(())
@@ -263,16 +238,7 @@ pub(crate) fn job_agrees(
     status: Status,
     text: &str,
 ) -> Result<bool, AllocError> {
-    let row = Row {
-        words,
-        spec: spec.as_bytes(),
-        image: "",
-        failing_read: 0,
-        failing_write: 0,
-        status,
-        text,
-    };
-    agrees(alloc, &row)
+    run_agrees(alloc, words, spec, "", status, text)
 }
 
 /// What stands behind the declarations of a row, so that what has to stand once does.
