@@ -26,13 +26,13 @@ setup images spec run told = record {
 
 pub text_tells : ImagesAreStates → TextTellsItsRun → TextTellsToldRun
 unfolding setup
-text_tells images law spec first second shows a b same =
-    a.run_is ∙ law spec (setup images spec first a) (setup images spec second b) (is_machine spec first a) shows
+text_tells images law spec first second a b same =
+    a.run_is ∙ law spec (setup images spec first a) (setup images spec second b) (is_machine spec first a)
     (ap (state_text_of spec) (sym a.run_is) ∙ same ∙ ap (state_text_of spec) b.run_is) ∙ sym b.run_is
 
 pub beginning_tells : ImagesAreStates → BeginningTellsItsRun → BeginningTellsToldRun
 unfolding setup
-beginning_tells images law spec first second more other shows a b same =
-    let both = law spec (setup images spec first a) (setup images spec second b) more other (is_machine spec first a) shows
+beginning_tells images law spec first second more other a b same =
+    let both = law spec (setup images spec first a) (setup images spec second b) more other (is_machine spec first a)
     (ap (λ r. state_text_of spec r ++ more) (sym a.run_is) ∙ same ∙ ap (λ r. state_text_of spec r ++ other) b.run_is) in
     (a.run_is ∙ both.0 ∙ sym b.run_is, both.1)

@@ -34,12 +34,11 @@ pub fn one_answer()
     file_laws();
 }
 
-/// What `run` prints tells the run, of every machine whose registers are unit, bool or bits and
-/// that has no memory: two runs of one machine that print the same text have the same boundary
-/// states and the same end, whatever the images, cycles and calls. And where one text begins with
-/// the texts of two such runs, they are the same, so that an output that was cut off is the output
-/// of no run of that machine. The machine and the images are what bytes stand for; nothing is
-/// supposed of the states.
+/// What `run` prints tells the run, of every machine: two runs of one machine that print the same
+/// text have the same boundary states and the same end, whatever the images, cycles and calls. And
+/// where one text begins with the texts of two such runs, they are the same, so that an output that
+/// was cut off is the output of no run of that machine. The machine and the images are what bytes
+/// stand for; nothing is supposed of the states.
 pub fn text_tells_told_run()
     ensures whole { TextTellsToldRun }
     ensures beginning { BeginningTellsToldRun }
