@@ -11,14 +11,16 @@ use Rattle.kat_ast.specs.declared.decl.Phase.{Phase}
 use Rattle.kat_ast.specs.declared.decl.Phase.TheVariants as phase
 use Rattle.kat_syntax.specs.Cycle.{CycleOutcome, Completed, OutOfCalls, FailedAt, cycle_of}
 use Rattle.kat_syntax.specs.Evaluation.{BothEnds, value_of_expr}
+use Rattle.kat_syntax.specs.FirstTypeFault.{IsTyped}
 use Rattle.kat_syntax.specs.Machine.{MachineState, Progress}
-use Rattle.kat_syntax.specs.OutsideWrites.{poked}
+use Rattle.kat_syntax.specs.OutsideWrites.{NoFit, NoPlace, Poked, Wrote, poked}
 use Rattle.kat_syntax.specs.declared.places.Poke.{Poke}
 use Rattle.kat_syntax.specs.Phases.{IsCodeThere, phase_of}
 use Rattle.kat_syntax.specs.Run.{Cycle, Ended, Event, IsEventList, OutIn, FailedIn, OutsideWrite, Run, after_cycle, run_from, run_of, state_behind, with_boundary}
 use Rattle.kat_syntax.specs.Secure.{EachStep, Exit, InsideBehindBlock, IsAllowedChange, IsBlock, IsBlockRun, IsNoFailure, IsSecureRun, IsWithinBlock, KeepsWhereUntrusted, Left, RunsWhereBlock, Stays, between, exit_of, is_inside, one_later}
 use Rattle.kat_syntax.specs.States.{kept_of}
 use Rattle.kat_syntax.specs.Tables.{Name}
+use Rattle.kat_claims.specs.Outside.{OutsideWritesKeep}
 use Rattle.kat_claims.specs.Runs.{RunsGoByEvents}
 
 -- two states are of one phase and have one list of kept values, and the first has the code cells
@@ -278,12 +280,56 @@ ended_from spec n k s (Cycle ∷ events) more ends =
 ended_from spec n k s (OutsideWrite poke ∷ events) more ends =
     ended_from spec n k (state_behind s (poked spec poke s)) events more ends
 
+-- a state looks as what it is behind a write from outside
+written_look :
+    (spec : Spec) (poke : Poke) (s : MachineState) → OutsideWritesKeep → IsTyped spec →
+    LooksAs spec.decls s (state_behind s (poked spec poke s))
+written_look spec poke s keep typed = by (poked spec poke s) refl
+  where
+    by : (p : Poked) → poked spec poke s ≡ p → LooksAs spec.decls s (state_behind s p)
+    by (Wrote t) is = record {
+      phase = sym (keep.phase spec poke s t typed is);
+      kept = sym (keep.kept spec poke s t typed is);
+      code = (keep.code spec poke s t typed is).0;
+    }
+    by NoPlace is = same_look spec.decls s
+    by NoFit is = same_look spec.decls s
+
+-- what looks as a state that looks as the first of some looks as that one
+further_look :
+    (decls : List DeclForm) (s t : MachineState) (states : List MachineState) →
+    LooksAs decls s t → Begins decls (t ∷ []) states → Begins decls (s ∷ []) states
+further_look decls s t [] looks begins = absurd begins
+further_look decls s t (u ∷ states) looks begins = (
+  record {
+        phase = looks.phase ∙ begins.0.phase;
+        kept = looks.kept ∙ begins.0.kept;
+        code = λ there. looks.code (begins.0.code there);
+      },
+  tt,
+)
+
+-- any events, of a typed specification
+begins_anywhere :
+    (spec : Spec) (n k : ℕ) (s : MachineState) (more : List Event) → OutsideWritesKeep →
+    IsTyped spec → BeginsAt spec (run_from spec n k s more) s
+begins_anywhere spec n k s [] keep typed = (same_look spec.decls s, tt)
+begins_anywhere spec n k s (Cycle ∷ more) keep typed = (same_look spec.decls s, tt)
+begins_anywhere spec n k s (OutsideWrite poke ∷ more) keep typed =
+    let behind = state_behind s (poked spec poke s) in
+    further_look spec.decls s behind (run_from spec n k behind more).boundaries
+    (written_look spec poke s keep typed) (begins_anywhere spec n k behind more keep typed)
+
 -- what runs do goes by their events
-pub runs_go_by_events : RunsGoByEvents
-runs_go_by_events = record {
+pub runs_go_by_events : OutsideWritesKeep → RunsGoByEvents
+runs_go_by_events keep = record {
   ended = λ spec n start events more ends. ended_from spec n 0 start events more ends;
   cut = λ spec n start events more is secure.
       secure_cut spec.decls (run_of spec n start (events ++ more)) (run_of spec n start events)
       (cut_at spec n more (λ s. Unit {0}) (λ s p good is. tt) (λ s poke good. tt)
       (λ k s good. begins_with_cycle spec n k s more is) 0 start events tt) secure;
+  cut_anywhere = λ spec n start events more typed secure.
+      secure_cut spec.decls (run_of spec n start (events ++ more)) (run_of spec n start events)
+      (cut_at spec n more (λ s. Unit {0}) (λ s p good is. tt) (λ s poke good. tt)
+      (λ k s good. begins_anywhere spec n k s more keep typed) 0 start events tt) secure;
 }

@@ -43,11 +43,13 @@ pub fn outside_writes_keep()
     what_changes();
 }
 
-/// A run that ended in a cycle is the same with more events, and one whose events are cut off at a
-/// cycle keeps what a run of a secure specification does.
+/// A run that ended in a cycle is the same with more events. One whose events are cut off at a
+/// cycle, or in a typed specification anywhere, keeps what a run of a secure specification does.
 pub fn runs_go_by_events()
     ensures { RunsGoByEvents }
-{}
+{
+    outside_writes_keep();
+}
 
 /// Of small machines, one whose step does nothing is secure. Those are not, from a state that boots,
 /// that break a clause each: a step that fails, an untrusted cycle that writes a protected register,
