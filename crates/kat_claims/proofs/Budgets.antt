@@ -1,12 +1,10 @@
 -- Contracts that are met with fewer calls.
-use Rattle.std.proofs.Common.{arith, ◌≡◌, ◌≢◌, ℕ, ◌+◌, ◌-◌, List, ◌++◌, Option, Some, None, refl, sym, ap, subst, ◌∙◌}
-use Rattle.std.specs.Prelude.{◌≤◌}
+use Rattle.std.proofs.Common.{arith, ◌≡◌, ◌≢◌, ℕ, ◌+◌, ◌-◌, List, ◌++◌, Option, Some, None, refl, sym, subst, ◌∙◌}
 use Rattle.kat_value.specs.declared.value.Value.{Value}
 use Rattle.kat_ast.specs.declared.decl.DeclForm.{DeclForm}
-use Rattle.kat_ast.specs.declared.place.Place.{Place}
-use Rattle.kat_syntax.specs.Cycle.{body_of, bound, call_of, progress_at}
+use Rattle.kat_syntax.specs.Cycle.{bound, call_of, progress_at}
 use Rattle.kat_syntax.specs.Evaluation.{Locals}
-use Rattle.kat_syntax.specs.Machine.{MachineState, Progress}
+use Rattle.kat_syntax.specs.Machine.{MachineState}
 use Rattle.kat_syntax.specs.Meaning.{meaning}
 use Rattle.kat_syntax.specs.MeaningLaws.{MoreCallsChangeNoOutcome, outcome_with_more}
 use Rattle.kat_syntax.specs.Meets.{Ends, LeavesPost, body_with}

@@ -1,5 +1,5 @@
 -- The counter machine boots.
-use Rattle.std.proofs.Common.{arith, ◌≡◌, ◌∙◌, ℕ, zero, suc, ◌+◌, ◌-◌, Bool, true, false, List, [], ◌∷◌, map, length, Option, Some, None, refl, sym, ap, subst, slice_get, if◌then◌else◌, unwrap_or}
+use Rattle.std.proofs.Common.{arith, ◌≡◌, ◌∙◌, ℕ, zero, suc, ◌-◌, Bool, true, false, List, [], ◌∷◌, Option, Some, None, refl, sym, ap, subst, slice_get, if◌then◌else◌, unwrap_or}
 use Rattle.std.specs.Prelude.{IsTrue, IsSome, nat_le, nat_lt, ◌==◌, ◌&&◌, ◌<◌, ◌≤◌, ◌^◌, codes}
 use Rattle.std.specs.List.{AllByRecursion}
 use Rattle.std.proofs.lemmas.Bool.{and_parts}
@@ -15,13 +15,11 @@ use Rattle.kat_value.specs.declared.value.Value.TheVariants as value
 use Rattle.kat_value.specs.declared.value.Value.TheVariants.{rolls-Bits, rolls-Member}
 use Rattle.kat_value.specs.declared.value.Value.TheViews.{outs-Bits, outs-Member}
 use Rattle.kat_value.specs.Equality.{same_layer, value_eq}
-use Rattle.kat_value.specs.Operations.{value_of_op}
 use Rattle.kat_value.specs.Typing.{has_type, layer_has_type}
 use Rattle.kat_value.specs.Widths.{is_number, is_width}
 use Rattle.kat_ast.specs.declared.assertion.Assertion.{Assertion}
 use Rattle.kat_ast.specs.declared.decl.DeclForm.{DeclForm}
 use Rattle.kat_ast.specs.declared.decl.Phase.TheVariants as phase
-use Rattle.kat_ast.specs.declared.expr.Expr.{Expr}
 use Rattle.kat_ast.specs.declared.expr.Expr.TheOpen as expr
 use Rattle.kat_ast.specs.declared.stm.Stm.{Stm}
 use Rattle.kat_value.specs.Numbers.{IsNumber}
@@ -29,7 +27,6 @@ use Rattle.kat_ast.specs.declared.assertion.Assertion.TheOpen as assertion
 use Rattle.kat_syntax.specs.Evaluation.{Environment, Nothing, value_of_expr}
 use Rattle.kat_syntax.specs.Fragments.{Fragment, IsOfMemory, IsOfType, Join, JoinAt, nothing, one_register, whole}
 use Rattle.kat_syntax.specs.Holds.{Holds, IsRegion, IsThere, guards, is_true, predicates_of}
-use Rattle.kat_syntax.specs.Machine.{MachineState}
 use Rattle.kat_syntax.specs.Phases.{Boots, IsGuardedAt, in_dispatch, phase_of, with_kept}
 use Rattle.kat_syntax.specs.States.{IsState, cell_at, memory_of, register_position, register_types}
 use Rattle.kat_syntax.specs.TypeTable.{types_of_decls}

@@ -1,14 +1,11 @@
 -- Runs over fewer events, and over more of them.
-use Rattle.std.proofs.Common.{arith, ◌≡◌, ◌≢◌, ◌∙◌, ℕ, ◌+◌, zero, suc, Bool, true, false, List, [], ◌∷◌, ◌++◌, Option, Some, refl, sym, ap, subst, if◌then◌else◌}
+use Rattle.std.proofs.Common.{arith, ◌≡◌, ◌≢◌, ◌∙◌, ℕ, ◌+◌, suc, true, false, List, [], ◌∷◌, ◌++◌, Some, refl, sym, ap, subst, if◌then◌else◌}
 use Rattle.std.specs.Prelude.{IsTrue, ◌≤◌, ◌<◌}
 use Rattle.std.specs.List.{AllByRecursion}
-use Rattle.kat_value.specs.declared.value.Value.{Value}
 use Rattle.kat_value.specs.declared.value.Value.TheVariants.{Bool as Truth}
 use Rattle.kat_ast.specs.Spec.{Spec}
 use Rattle.kat_ast.specs.declared.decl.Block.{Block}
 use Rattle.kat_ast.specs.declared.decl.DeclForm.{DeclForm}
-use Rattle.kat_ast.specs.declared.decl.Phase.{Phase}
-use Rattle.kat_ast.specs.declared.decl.Phase.TheVariants as phase
 use Rattle.kat_syntax.specs.Cycle.{CycleOutcome, Completed, OutOfCalls, FailedAt, cycle_of}
 use Rattle.kat_syntax.specs.Evaluation.{BothEnds, value_of_expr}
 use Rattle.kat_syntax.specs.FirstTypeFault.{IsTyped}
@@ -16,10 +13,9 @@ use Rattle.kat_syntax.specs.Machine.{MachineState, Progress}
 use Rattle.kat_syntax.specs.OutsideWrites.{NoFit, NoPlace, Poked, Wrote, poked}
 use Rattle.kat_syntax.specs.declared.places.Poke.{Poke}
 use Rattle.kat_syntax.specs.Phases.{IsCodeThere, phase_of}
-use Rattle.kat_syntax.specs.Run.{Cycle, Ended, Event, IsEventList, OutIn, FailedIn, OutsideWrite, Run, after_cycle, run_from, run_of, state_behind, with_boundary}
-use Rattle.kat_syntax.specs.Secure.{EachStep, Exit, InsideBehindBlock, IsAllowedChange, IsBlock, IsBlockRun, IsNoFailure, IsSecureRun, IsWithinBlock, KeepsWhereUntrusted, Left, RunsWhereBlock, Stays, between, exit_of, is_inside, one_later}
+use Rattle.kat_syntax.specs.Run.{Cycle, Ended, Event, IsEventList, OutsideWrite, Run, after_cycle, run_from, run_of, state_behind, with_boundary}
+use Rattle.kat_syntax.specs.Secure.{EachStep, Exit, IsBlock, IsBlockRun, IsNoFailure, IsSecureRun, IsWithinBlock, KeepsWhereUntrusted, Left, Stays, exit_of, is_inside, one_later}
 use Rattle.kat_syntax.specs.States.{kept_of}
-use Rattle.kat_syntax.specs.Tables.{Name}
 use Rattle.kat_claims.specs.Outside.{OutsideWritesKeep}
 use Rattle.kat_claims.specs.Runs.{RunsGoByEvents}
 
@@ -302,10 +298,10 @@ further_look :
 further_look decls s t [] looks begins = absurd begins
 further_look decls s t (u ∷ states) looks begins = (
   record {
-        phase = looks.phase ∙ begins.0.phase;
-        kept = looks.kept ∙ begins.0.kept;
-        code = λ there. looks.code (begins.0.code there);
-      },
+    phase = looks.phase ∙ begins.0.phase;
+    kept = looks.kept ∙ begins.0.kept;
+    code = λ there. looks.code (begins.0.code there);
+  },
   tt,
 )
 

@@ -38,7 +38,8 @@ names_clean around decl e =
 
 -- what stands behind its names and the limits has no faults
 pub inner_clean :
-    (around : Around) (decl : DeclForm) → decl_faults around decl ≡ [] → inner_faults around decl ≡ []
+    (around : Around) (decl : DeclForm) → decl_faults around decl ≡ [] →
+    inner_faults around decl ≡ []
 inner_clean around decl e =
     let limits = unless (is_in_limits around decl) 0 TooMany in
     no_second limits (inner_faults around decl)

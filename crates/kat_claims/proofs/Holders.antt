@@ -1,17 +1,15 @@
 -- What holds an assertion is a fragment of the machine.
-use Rattle.std.proofs.Common.{◌≡◌, ◌==◌, ℕ, if◌then◌else◌, slice_get, Bool, true, false, List, [], ◌∷◌, ◌++◌, reverse, map, Option, Some, None, refl, sym, ap, subst, ◌∙◌, eqb-true, unwrap_or}
+use Rattle.std.proofs.Common.{◌≡◌, ◌==◌, ℕ, if◌then◌else◌, slice_get, Bool, true, false, List, [], ◌∷◌, reverse, map, Option, Some, None, refl, sym, ap, subst, ◌∙◌, eqb-true, unwrap_or}
 use Rattle.std.specs.Str.{bytes_eq}
 use Rattle.kat_value.specs.declared.value.Value.{Value}
 use Rattle.kat_ast.specs.declared.assertion.Assertion.{Assertion}
 use Rattle.kat_ast.specs.declared.assertion.Assertion.TheOpen.{Assertion-F, Pure, Register, Cell, Star, If, Exists, Predicate, Region}
 use Rattle.kat_ast.specs.declared.assertion.Assertion.TheFolds.{map-Assertion, ind-Assertion}
-use Rattle.kat_ast.specs.declared.assertion.Assertion.TheViews.{roll-Assertion}
 use Rattle.kat_ast.specs.declared.decl.DeclForm.{DeclForm}
 use Rattle.kat_ast.specs.declared.decl.DeclForm.TheVariants as d
 use Rattle.kat_syntax.specs.Evaluation.{Environment, Locals, Reads}
 use Rattle.kat_syntax.specs.Fragments.{Fragment, IsFragment, IsOfMemory, IsOfType, Join, JoinAt, nothing, one_cell, one_register}
-use Rattle.kat_syntax.specs.Holds.{Predicates, Holds, HoldsAll, HoldsBy, HoldsDefined, HoldsLayer, IfTrue, predicates_among, predicates_of}
-use Rattle.kat_syntax.specs.Memories.{Memory}
+use Rattle.kat_syntax.specs.Holds.{Predicates, HoldsAll, HoldsBy, HoldsLayer, IfTrue, predicates_among, predicates_of}
 use Rattle.kat_syntax.specs.States.{memory_of, register_types}
 use Rattle.kat_syntax.specs.Tables.{Name}
 use Rattle.kat_claims.specs.Assertions.{HoldersAreFragments}

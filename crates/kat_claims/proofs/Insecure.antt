@@ -1,12 +1,10 @@
 -- Machines that break one clause of security each, and one of which no state boots.
-use Rattle.std.proofs.Common.{arith, ◌≡◌, ◌∙◌, ℕ, zero, suc, Bool, true, false, List, [], ◌∷◌, map, Option, Some, None, refl, sym, ap, subst, slice_get, if◌then◌else◌, unwrap_or}
+use Rattle.std.proofs.Common.{arith, ◌≡◌, ◌∙◌, ℕ, suc, Bool, true, false, List, [], ◌∷◌, Option, Some, refl, sym, ap, subst, slice_get, if◌then◌else◌, unwrap_or}
 use Rattle.std.specs.Prelude.{◌<◌, option_and_then}
-use Rattle.std.specs.List.{AllByRecursion}
 use Rattle.kat_value.specs.declared.value.Value.{Value}
 use Rattle.kat_value.specs.declared.value.Value.TheVariants as value
 use Rattle.kat_value.specs.declared.value.Value.TheViews.{outs-Bool}
 use Rattle.kat_value.specs.declared.op.Op.TheVariants as op
-use Rattle.kat_ast.specs.Spec.{Spec}
 use Rattle.kat_ast.specs.declared.decl.Block.{Block}
 use Rattle.kat_ast.specs.declared.decl.DeclForm.{DeclForm}
 use Rattle.kat_ast.specs.declared.decl.Phase.{Phase}
@@ -17,7 +15,6 @@ use Rattle.kat_ast.specs.declared.decl.When.{When}
 use Rattle.kat_ast.specs.declared.expr.Expr.{Expr}
 use Rattle.kat_ast.specs.declared.expr.Expr.TheOpen as expr
 use Rattle.kat_ast.specs.declared.expr.Expr.TheViews.{roll-Expr}
-use Rattle.kat_ast.specs.declared.stm.Stm.{Stm}
 use Rattle.kat_ast.specs.declared.stm.Stm.TheOpen as stm
 use Rattle.kat_ast.specs.declared.stm.Stm.TheViews.{roll-Stm}
 use Rattle.kat_syntax.specs.Cycle.{call_of, cycle_of}
@@ -28,8 +25,7 @@ use Rattle.kat_syntax.specs.Phases.{Boots, in_dispatch, phase_of}
 use Rattle.kat_syntax.specs.Run.{Cycle, Ended, Run, run_of}
 use Rattle.kat_syntax.specs.Secure.{IsBlockRun, IsSecure, IsSecureRun, Left, Stays, between, exit_of, is_inside, one_later}
 use Rattle.kat_syntax.specs.States.{IsState}
-use Rattle.kat_syntax.specs.Tables.{Name}
-use Rattle.kat_claims.specs.Machines.{anything, as_spec, block, exceeding, falsehood, guarded, lingering, local, machine, machine_of, mode, shifts, slipping, state_of, tampering, the_local, unbootable, not_set, when_block, when_untrusted, write, yes}
+use Rattle.kat_claims.specs.Machines.{anything, as_spec, block, exceeding, falsehood, guarded, lingering, local, machine_of, mode, shifts, slipping, state_of, tampering, the_local, unbootable, not_set, when_block, when_untrusted, write, yes}
 use Rattle.kat_claims.proofs.Steps.{block_phase, boots_there, ends_as, expr_layer, leaves, one_cycle, state_there, stm_layer, truth_has_type, two_cycles}
 
 -- where the expressions of a step are read

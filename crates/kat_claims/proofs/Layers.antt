@@ -1,9 +1,9 @@
 -- What an assertion says of a fragment, opened and closed at one layer.
-use Rattle.std.proofs.Common.{◌≡◌, List, [], ◌∷◌, map, refl, sym, ap, subst, ◌∙◌}
+use Rattle.std.proofs.Common.{◌≡◌, List, [], ◌∷◌, map, refl, sym, ap, subst}
 use Rattle.kat_ast.specs.declared.assertion.Assertion.{Assertion}
 use Rattle.kat_ast.specs.declared.assertion.Assertion.TheOpen.{Assertion-F, Pure, Register, Cell, Star, If, Exists, Predicate, Region}
 use Rattle.kat_ast.specs.declared.assertion.Assertion.TheFolds.{map-Assertion, rec-roll-Assertion}
-use Rattle.kat_ast.specs.declared.assertion.Assertion.TheViews.{out-Assertion, roll-Assertion, roll-out-Assertion}
+use Rattle.kat_ast.specs.declared.assertion.Assertion.TheViews.{roll-Assertion}
 use Rattle.kat_syntax.specs.Evaluation.{Environment}
 use Rattle.kat_syntax.specs.Fragments.{Fragment, Join}
 use Rattle.kat_syntax.specs.Holds.{Predicates, HoldsAll, HoldsBy, HoldsLayer}

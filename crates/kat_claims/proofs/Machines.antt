@@ -1,45 +1,25 @@
 -- Small machines that are secure or not.
-use Rattle.std.proofs.Common.{arith, ◌≡◌, ◌∙◌, ℕ, ◌+◌, zero, suc, slice_get, Bool, true, false, List, [], ◌∷◌, ◌++◌, map, Option, Some, None, refl, sym, ap, subst, if◌then◌else◌, unwrap_or}
-use Rattle.std.specs.Prelude.{IsTrue, ◌≤◌, ◌<◌, option_and_then}
+use Rattle.std.proofs.Common.{arith, ◌≡◌, ◌∙◌, ℕ, ◌+◌, zero, suc, slice_get, Bool, true, false, List, [], ◌∷◌, ◌++◌, Option, Some, None, refl, sym, ap, subst, if◌then◌else◌, unwrap_or}
+use Rattle.std.specs.Prelude.{option_and_then}
 use Rattle.std.specs.List.{AllByRecursion}
-use Rattle.std.specs.Str.{bytes_eq}
-use Rattle.kat_value.specs.declared.types.Ty.{Ty}
-use Rattle.kat_value.specs.declared.types.Ty.TheVariants as ty
-use Rattle.kat_value.specs.declared.types.TypeDecl.{TypeDecl}
-use Rattle.kat_value.specs.declared.value.Value.{Value, fold-roll-Value}
-use Rattle.kat_value.specs.declared.value.Value.TheOpen as layer
 use Rattle.kat_value.specs.declared.value.Value.TheVariants as value
 use Rattle.kat_value.specs.declared.value.Value.TheVariants.{rolls-Bool}
-use Rattle.kat_value.specs.Typing.{has_type, layer_has_type}
-use Rattle.kat_ast.specs.Spec.{Spec}
-use Rattle.kat_ast.specs.declared.assertion.Assertion.TheOpen as assertion
 use Rattle.kat_ast.specs.declared.decl.Block.{Block}
 use Rattle.kat_ast.specs.declared.decl.DeclForm.{DeclForm}
 use Rattle.kat_ast.specs.declared.decl.Phase.{Phase}
 use Rattle.kat_ast.specs.declared.decl.Phase.TheVariants as phase
 use Rattle.kat_ast.specs.declared.decl.RegisterKind.TheVariants as register
-use Rattle.kat_ast.specs.declared.expr.Expr.{Expr}
 use Rattle.kat_ast.specs.declared.expr.Expr.TheOpen as expr
-use Rattle.kat_ast.specs.declared.expr.Expr.TheFolds.{map-Expr, fold-roll-Expr}
-use Rattle.kat_ast.specs.declared.expr.Expr.TheViews.{roll-Expr}
-use Rattle.kat_ast.specs.declared.stm.Stm.{Stm}
 use Rattle.kat_ast.specs.declared.stm.Stm.TheOpen as stm
-use Rattle.kat_ast.specs.declared.stm.Stm.TheFolds.{map-Stm, fold-roll-Stm}
-use Rattle.kat_ast.specs.declared.stm.Stm.TheViews.{roll-Stm}
-use Rattle.kat_syntax.specs.Cycle.{CycleOutcome, Completed, OutOfCalls, FailedAt, as_cycle, call_of, cycle_of, stuck_place}
-use Rattle.kat_syntax.specs.Evaluation.{Environment, Nothing, expr_value, value_of_expr}
-use Rattle.kat_syntax.specs.Fragments.{nothing, whole}
-use Rattle.kat_syntax.specs.Machine.{MachineState, Progress}
-use Rattle.kat_syntax.specs.Meaning.{Calls, Part, part_of, part_of_stm}
-use Rattle.kat_syntax.specs.Outcomes.{at_site, inside, place_in}
-use Rattle.kat_syntax.specs.Phases.{Boots, IsCodeThere, IsGuardedAt, IsGuardedBy, block_of, in_dispatch, phase_of, with_kept}
-use Rattle.kat_syntax.specs.Holds.{predicates_of}
+use Rattle.kat_syntax.specs.Cycle.{CycleOutcome, Completed, FailedAt, call_of, cycle_of}
+use Rattle.kat_syntax.specs.Evaluation.{Nothing, value_of_expr}
+use Rattle.kat_syntax.specs.Machine.{MachineState}
+use Rattle.kat_syntax.specs.Phases.{IsCodeThere, block_of, phase_of}
 use Rattle.kat_syntax.specs.OutsideWrites.{poked, poked_at, target_in}
 use Rattle.kat_syntax.specs.declared.places.OutsidePlace.{OutsidePlace}
 use Rattle.kat_syntax.specs.declared.places.Poke.{Poke}
-use Rattle.kat_syntax.specs.Run.{Cycle, Ended, Event, FailedIn, OutIn, OutsideWrite, Run, after_cycle, run_from, run_of, state_behind, with_boundary}
-use Rattle.kat_syntax.specs.Secure.{IsAllowedChange, IsBlockRun, IsNoFailure, IsSecure, IsSecureRun, Left, between, exit_of, is_inside, one_later}
-use Rattle.kat_syntax.specs.States.{IsState}
+use Rattle.kat_syntax.specs.Run.{Cycle, Event, OutsideWrite, Run, after_cycle, run_from, state_behind, with_boundary}
+use Rattle.kat_syntax.specs.Secure.{IsAllowedChange, IsBlockRun, IsNoFailure, IsSecure, Left, between, exit_of, is_inside, one_later}
 use Rattle.kat_claims.specs.Machines.{anything, block, failing, fails, no_value, resting, state_of, yes}
 use Rattle.kat_syntax.specs.Tables.{Name}
 use Rattle.kat_claims.proofs.Steps.{boots_there, ends_as, expr_layer, state_there, stm_layer}

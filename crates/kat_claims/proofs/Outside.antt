@@ -1,6 +1,6 @@
--- A write from outside leaves the phase, the kept values and the code cells of a typed specification.
-use Rattle.std.proofs.Common.{arith, ◌≡◌, ◌∙◌, ℕ, ◌+◌, ◌-◌, ◌<◌, ◌≤◌, Bool, true, false, not, ◌&&◌, List, [], ◌∷◌, ◌++◌, filter, get_or, map, slice_get, Option, Some, None, refl, sym, ap, subst, if◌then◌else◌}
-use Rattle.std.specs.Prelude.{◌==◌, nat_le, nat_lt, option_and_then, position}
+-- A write from outside leaves the phase, the kept values and the code of a typed specification.
+use Rattle.std.proofs.Common.{arith, ◌≡◌, ◌∙◌, ℕ, ◌+◌, ◌-◌, Bool, true, false, not, ◌&&◌, List, [], ◌∷◌, ◌++◌, filter, get_or, map, slice_get, Option, Some, None, refl, sym, ap, subst, if◌then◌else◌}
+use Rattle.std.specs.Prelude.{◌==◌, nat_le, nat_lt, option_and_then}
 use Rattle.std.specs.Option.{option_map}
 use Rattle.std.specs.List.{AllByRecursion, cons_option, filter_map, list_any, range_with_len}
 use Rattle.std.specs.Str.{bytes_eq}
@@ -17,12 +17,11 @@ use Rattle.kat_syntax.specs.declared.places.OutsidePlace.{OutsidePlace}
 use Rattle.kat_syntax.specs.declared.places.OutsidePlace.TheVariants.{Register as OutsideRegister, Cells as OutsideCells}
 use Rattle.kat_syntax.specs.declared.places.Poke.{Poke}
 use Rattle.kat_syntax.specs.Around.{a_register, meant}
-use Rattle.kat_syntax.specs.Declares.{declared_by}
 use Rattle.kat_syntax.specs.FirstTypeFault.{IsTyped}
 use Rattle.kat_syntax.specs.Machine.{MachineState}
 use Rattle.kat_syntax.specs.MeaningLaws.{ChangesOnePlace, OutsideWritesChangeOnePlace}
 use Rattle.kat_syntax.specs.Memories.{Memory, protects, ranges_of}
-use Rattle.kat_syntax.specs.OutsideWrites.{OneCell, OneRegister, Target, Wrote, outside_places, poked, target_in, target_of}
+use Rattle.kat_syntax.specs.OutsideWrites.{OneCell, OneRegister, Target, outside_places, target_in, target_of}
 use Rattle.kat_syntax.specs.Phases.{IsCodeThere, phase_of}
 use Rattle.kat_syntax.specs.States.{KeptCell, KeptPlace, KeptRegister, cell_at, cell_width, kept_cells, kept_of, kept_places, kept_register, memory_of, register_position, register_value, value_at, value_of_place}
 use Rattle.kat_syntax.specs.Tables.{Name, RegisterDecl, register_names, registers_of}
@@ -131,7 +130,8 @@ all_both P (x ∷ xs) ys first second = (first.0, all_both P xs ys first.1 secon
 registers_kept :
     (P : KeptPlace → Type 0) (registers : List RegisterDecl) →
     AllByRecursion
-    (λ (one : RegisterDecl). is_protected_kind one.kind ≡ true → P (KeptRegister one.name)) registers →
+    (λ (one : RegisterDecl). is_protected_kind one.kind ≡ true → P (KeptRegister one.name))
+    registers →
     AllByRecursion P (filter_map kept_register registers)
 registers_kept P [] each = tt
 registers_kept P (one ∷ registers) each =
@@ -158,8 +158,10 @@ cells_kept P decls (Some memory) each = among (range_with_len memory.lo (memory.
         AllByRecursion P (map KeptCell (if b then i ∷ rest else rest))
     one i true rest here more = (here refl, more)
     one i false rest here more = more
+
     among : (indices : List ℕ) →
-        AllByRecursion P (map KeptCell (filter (λ i. list_any (protects i) (ranges_of decls)) indices))
+        AllByRecursion P
+        (map KeptCell (filter (λ i. list_any (protects i) (ranges_of decls)) indices))
     among [] = tt
     among (i ∷ indices) =
         one i (list_any (protects i) (ranges_of decls))
@@ -192,14 +194,16 @@ module _ (spec : Spec) (typed : IsTyped spec) (s t : MachineState) where
       (target : Target) → IsOutsideTarget spec.decls target → ChangesOnePlace target s t →
       AllByRecursion
       (λ (one : RegisterDecl). is_protected_kind one.kind ≡ true →
-      register_value spec.decls one.name t.registers ≡ register_value spec.decls one.name s.registers)
+      register_value spec.decls one.name t.registers
+      ≡ register_value spec.decls one.name s.registers)
       (registers_of spec.decls)
   protected_same (OneCell index width) out changes = every (registers_of spec.decls)
     where
       every : (registers : List RegisterDecl) →
           AllByRecursion
           (λ (one : RegisterDecl). is_protected_kind one.kind ≡ true →
-          register_value spec.decls one.name t.registers ≡ register_value spec.decls one.name s.registers)
+          register_value spec.decls one.name t.registers
+          ≡ register_value spec.decls one.name s.registers)
           registers
       every [] = tt
       every (one ∷ registers) = (
@@ -214,7 +218,8 @@ module _ (spec : Spec) (typed : IsTyped spec) (s t : MachineState) where
       every : (registers : List RegisterDecl) → AreOthers out.register.name registers →
           AllByRecursion
           (λ (one : RegisterDecl). is_protected_kind one.kind ≡ true →
-          register_value spec.decls one.name t.registers ≡ register_value spec.decls one.name s.registers)
+          register_value spec.decls one.name t.registers
+          ≡ register_value spec.decls one.name s.registers)
           registers
       every [] others = tt
       every (one ∷ registers) others = (
@@ -224,7 +229,8 @@ module _ (spec : Spec) (typed : IsTyped spec) (s t : MachineState) where
             others.0 protected
             ((bytes_eq-Decides one.name (get_or (register_names spec.decls) p [])).0 first.1
             ∙ name_at spec.decls p out.register
-            (subst (λ q. slice_get (registers_of spec.decls) q ≡ Some out.register) same out.there))))),
+            (subst (λ q. slice_get (registers_of spec.decls) q ≡ Some out.register) same
+            out.there))))),
         every registers others.1,
       )
 
@@ -247,7 +253,8 @@ module _ (spec : Spec) (typed : IsTyped spec) (s t : MachineState) where
       (all_both (λ place. value_of_place spec.decls t place ≡ value_of_place spec.decls s place)
       (filter_map kept_register (registers_of spec.decls))
       (kept_cells spec.decls (memory_of spec.decls))
-      (registers_kept (λ place. value_of_place spec.decls t place ≡ value_of_place spec.decls s place)
+      (registers_kept
+      (λ place. value_of_place spec.decls t place ≡ value_of_place spec.decls s place)
       (registers_of spec.decls) (protected_same target out changes))
       (cells_kept (λ place. value_of_place spec.decls t place ≡ value_of_place spec.decls s place)
       spec.decls (memory_of spec.decls)
@@ -258,7 +265,8 @@ module _ (spec : Spec) (typed : IsTyped spec) (s t : MachineState) where
       (target : Target) → IsOutsideTarget spec.decls target → ChangesOnePlace target s t →
       phase_of spec.decls t ≡ phase_of spec.decls s
   phase_same target out changes =
-      same_phase spec.decls t.registers s.registers (read_same target out changes) 0 spec.decls typed
+      same_phase spec.decls t.registers s.registers (read_same target out changes) 0 spec.decls
+      typed
 
   code_same :
       (target : Target) → IsOutsideTarget spec.decls target → ChangesOnePlace target s t →

@@ -1,17 +1,15 @@
 -- A cell that may be written from outside is of no other declaration of a typed specification.
 use Rattle.std.proofs.Common.{arith, ◌≡◌, ◌∙◌, ℕ, zero, suc, ◌+◌, ◌<◌, ◌≤◌, Bool, true, false, not, ◌&&◌, ◌||◌, List, [], ◌∷◌, ◌++◌, length, take, drop, slice_get, Option, Some, None, refl, sym, ap, subst, add-one}
-use Rattle.std.specs.Prelude.{◌==◌, nat_le, nat_lt, unwrap_or, is_some}
+use Rattle.std.specs.Prelude.{◌==◌, nat_le, nat_lt}
 use Rattle.std.specs.List.{AllByRecursion, cons_option, list_any}
 use Rattle.std.proofs.lemmas.Bool.{or_parts, false≢true}
 use Rattle.std.proofs.lemmas.Bool.Decides.{nat_tests}
 use Rattle.std.proofs.lemmas.List.Folds.{list_any_kept}
-use Rattle.kat_ast.specs.declared.decl.CellsKind.{CellsKind}
 use Rattle.kat_ast.specs.declared.decl.CellsKind.TheVariants as cells
 use Rattle.kat_ast.specs.declared.decl.DeclForm.{DeclForm}
 use Rattle.kat_ast.specs.declared.decl.DeclForm.TheVariants as d
 use Rattle.kat_ast.specs.declared.decl.RegisterKind.TheVariants as register
-use Rattle.kat_syntax.specs.declared.places.OutsidePlace.{OutsidePlace}
-use Rattle.kat_syntax.specs.declared.places.OutsidePlace.TheVariants.{Register as OutsideRegister, Cells as OutsideCells}
+use Rattle.kat_syntax.specs.declared.places.OutsidePlace.TheVariants.{Cells as OutsideCells}
 use Rattle.kat_syntax.specs.declared.type_rule.TypeRule.TheVariants.{CellTaken, RangeOutside}
 use Rattle.kat_syntax.specs.Around.{Around}
 use Rattle.kat_syntax.specs.Machine.{MachineState}
@@ -20,7 +18,7 @@ use Rattle.kat_syntax.specs.OutsideWrites.{outside_from}
 use Rattle.kat_syntax.specs.Phases.{AreStated, IsCodeThere}
 use Rattle.kat_syntax.specs.States.{cell_at}
 use Rattle.kat_syntax.specs.TypeRules.{unless}
-use Rattle.kat_syntax.specs.TypingDeclarations.{are_cell_values, decl_faults, inner_faults, range_faults}
+use Rattle.kat_syntax.specs.TypingDeclarations.{are_cell_values, inner_faults, range_faults}
 use Rattle.kat_syntax.specs.TypingStatements.{without_memory}
 use Rattle.kat_claims.proofs.Faultless.{AreClean, inner_clean, met, no_first, no_second}
 
@@ -91,7 +89,8 @@ module _ (i : ℕ) where
           (covers_in i o || list_any (has i) decls) ≡ false
       one None rest apart = rest apart
       one (Some other) rest apart =
-          let parts = or_parts (overlap range other) (list_any (overlap range) (ranges_of decls)) apart in
+          let parts =
+          or_parts (overlap range other) (list_any (overlap range) (ranges_of decls)) apart in
           or_neither (covers i other) (list_any (has i) decls)
           (cell_of_one i range other (covers i other) parts.0 here refl) (rest parts.1)
 
@@ -118,7 +117,8 @@ module _ (i : ℕ) where
       (around : Around) (decl : DeclForm) → inner_faults around decl ≡ [] →
       list_any (has i) (take around.number around.decls) ≡ true → has i decl ≡ false
   not_again around (d.Cells kind lo hi) e taken =
-      untaken around (range_of_cells kind lo hi) (free_range around (range_of_cells kind lo hi) e) taken
+      let range = range_of_cells kind lo hi in
+      untaken around range (free_range around range e) taken
   not_again around (d.Code lo values) e taken =
       let range = range_of_code lo values in
       untaken around range
@@ -162,7 +162,8 @@ module _ (i : ℕ) where
 
   -- none of which has the cell lets it be written
   none_lets :
-      (decls : List DeclForm) → list_any (has i) decls ≡ false → list_any (lets_write i) decls ≡ false
+      (decls : List DeclForm) → list_any (has i) decls ≡ false →
+      list_any (lets_write i) decls ≡ false
   none_lets [] none = refl
   none_lets (decl ∷ decls) none =
       let parts = or_parts (has i decl) (list_any (has i) decls) none in
@@ -186,6 +187,7 @@ module _ (i : ℕ) where
           (b || list_any (lets_write i) decls) ≡ true → b ≡ true
       one true none lets = refl
       one false none lets = absurd (false≢true (sym none ∙ lets))
+
       by :
           (b : Bool) → has i decl ≡ b →
           (list_any (lets_write i) decls ≡ true → IsOutsideAlone i decls) →
@@ -228,7 +230,8 @@ module _ (i : ℕ) where
       let first : low ≡ lo = cc in
       let second : high ≡ hi = cc in
       ap (λ b. (b && true) || list_any (lets_write i) decls)
-      (ap (λ l. nat_le l i && nat_lt i high) first ∙ ap (λ h. nat_le lo i && nat_lt i h) second ∙ here)
+      (ap (λ l. nat_le l i && nat_lt i high) first
+      ∙ ap (λ h. nat_le lo i && nat_lt i h) second ∙ here)
   lets_from k (d.Cells cells.Outside low high ∷ decls) (suc n) lo hi is here =
       or_second ((nat_le low i && nat_lt i high) && true) (list_any (lets_write i) decls)
       (lets_from k decls n lo hi is here)
@@ -250,7 +253,8 @@ module _ (i : ℕ) where
     stated lo [] others are = tt
     stated lo (n ∷ values) others are = (
       others lo (omega arith) (omega arith) ∙ are.0,
-      stated (lo + 1) values (λ j first last. others j (omega (arith, first)) (omega (arith, last))) are.1,
+      stated (lo + 1) values
+          (λ j first last. others j (omega (arith, first)) (omega (arith, last))) are.1,
     )
 
     -- the code cells stay where this cell is outside alone
@@ -266,7 +270,8 @@ module _ (i : ℕ) where
       where
         other : (j : ℕ) → lo ≤ j → j < lo + length values → (b : Bool) → (i == j) ≡ b → not b ≡ true
         other j first last true is =
-            let out = never_met (has i (d.Code lo values)) alone.0 in absurd (grind (arith, nat_tests))
+            let out = never_met (has i (d.Code lo values)) alone.0 in
+            absurd (grind (arith, nat_tests))
         other j first last false is = refl
     code_stays (_ ∷ decls) alone there = code_stays decls alone.1 there
 

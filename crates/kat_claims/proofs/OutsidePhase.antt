@@ -1,10 +1,8 @@
 -- The dispatch of a typed specification reads no register that may be written from outside.
-use Rattle.std.proofs.Common.{arith, ◌≡◌, ◌∙◌, ℕ, zero, suc, ◌+◌, ◌<◌, Bool, true, false, not, List, [], ◌∷◌, ◌++◌, get_or, length, map, slice_get, Option, Some, None, refl, sym, ap, subst, if◌then◌else◌}
+use Rattle.std.proofs.Common.{◌≡◌, ◌∙◌, ℕ, ◌+◌, true, not, List, [], ◌∷◌, ◌++◌, length, map, Option, Some, None, refl, sym, ap, subst, if◌then◌else◌}
 use Rattle.std.specs.Prelude.{option_and_then, ◌==◌}
 use Rattle.std.specs.Option.{option_map}
 use Rattle.std.specs.List.{AllByRecursion}
-use Rattle.std.specs.Str.{bytes_eq}
-use Rattle.std.proofs.lemmas.Bool.{and_parts, false≢true}
 use Rattle.kat_value.specs.declared.types.Ty.{Ty}
 use Rattle.kat_value.specs.declared.types.Ty.TheVariants as ty
 use Rattle.kat_value.specs.declared.signature.Signature.{Signature}
@@ -29,12 +27,12 @@ use Rattle.kat_syntax.specs.Evaluation.{Environment, Registers, expr_value, valu
 use Rattle.kat_syntax.specs.Holds.{is_true}
 use Rattle.kat_syntax.specs.NamedValues.{made_value, rec_value, got_value}
 use Rattle.kat_syntax.specs.Phases.{first_true, phase_by}
-use Rattle.kat_syntax.specs.States.{register_position, register_value, value_at}
+use Rattle.kat_syntax.specs.States.{register_value}
 use Rattle.kat_syntax.specs.Tables.{Name}
-use Rattle.kat_syntax.specs.TypeRules.{Fault, unless}
+use Rattle.kat_syntax.specs.TypeRules.{unless}
 use Rattle.kat_syntax.specs.TypeTable.{types_of_decls}
-use Rattle.kat_syntax.specs.TypingDeclarations.{inner_faults, is_dispatch, is_second, phase_faults, truth_at, when_faults}
-use Rattle.kat_syntax.specs.TypingExpressions.{InDispatch, Known, arg_faults, expr_faults, expr_known, field_fault, given_faults, is_of_kind, is_outside_kind, known_of_expr, known_types, may_read, op_arg_faults, parts_faults, stated_width, unknown, unknown_type, wanting, width_rule}
+use Rattle.kat_syntax.specs.TypingDeclarations.{is_dispatch, is_second, phase_faults, truth_at, when_faults}
+use Rattle.kat_syntax.specs.TypingExpressions.{InDispatch, Known, arg_faults, expr_known, field_fault, given_faults, is_of_kind, is_outside_kind, known_of_expr, known_types, op_arg_faults, parts_faults, stated_width, unknown, unknown_type, wanting, width_rule}
 use Rattle.kat_claims.proofs.Faultless.{AreClean, inner_clean, met, no_first, no_second}
 
 module _ (all : List DeclForm) (k : ℕ) (before after : List Value)
@@ -88,8 +86,7 @@ module _ (all : List DeclForm) (k : ℕ) (before after : List Value)
   args_clean (type ∷ types) at [] e = tt
   args_clean (type ∷ types) at (arg ∷ args) e =
       let behind = arg_faults types (at + arg.trees) args in
-      let more = wanting type at arg.type ++ behind in
-      (
+      let more = wanting type at arg.type ++ behind in (
         (at, no_first (arg.faults at) more e),
         args_clean types (at + arg.trees) args
             (no_second (wanting type at arg.type) behind (no_second (arg.faults at) more e)),
@@ -102,10 +99,10 @@ module _ (all : List DeclForm) (k : ℕ) (before after : List Value)
   op_args_clean signature j fixed at (arg ∷ args) e =
       let behind = op_arg_faults signature (j + 1) (fixed_behind signature j fixed arg.type)
       (at + arg.trees) args in
-      let wanted = unless (takes signature j fixed arg.type) at TypeOther in
-      (
+      let wanted = unless (takes signature j fixed arg.type) at TypeOther in (
         (at, no_first (arg.faults at) (wanted ++ behind) e),
-        op_args_clean signature (j + 1) (fixed_behind signature j fixed arg.type) (at + arg.trees) args
+        op_args_clean signature (j + 1) (fixed_behind signature j fixed arg.type)
+            (at + arg.trees) args
             (no_second wanted behind (no_second (arg.faults at) (wanted ++ behind) e)),
       )
 
@@ -155,10 +152,15 @@ module _ (all : List DeclForm) (k : ℕ) (before after : List Value)
   layer_same (Make c payload) (at, e) =
       let inner = known payload.0 in
       let wanted = wanting
-      (option_and_then (λ (seen : CtorSeen). seen.payload) (meant a_ctor around c)) (at + 3) inner.type in
+      (option_and_then (λ (seen : CtorSeen). seen.payload) (meant a_ctor around c)) (at + 3)
+      inner.type in
       ap (option_and_then (made_value (types_of_decls all) c))
-      (payload.1 (at + 3, no_first (inner.faults (at + 3)) wanted
-      (no_second (unknown (at + 2) (meant a_ctor around c)) (inner.faults (at + 3) ++ wanted) e)))
+      (payload.1 (
+        at + 3,
+        no_first (inner.faults (at + 3)) wanted
+            (no_second (unknown (at + 2) (meant a_ctor around c))
+            (inner.faults (at + 3) ++ wanted) e),
+      ))
   layer_same (Rec r fields) (at, e) =
       let params = option_map (λ (seen : RecordSeen). seen.fields) (record_called around r) in
       ap (option_and_then (rec_value (types_of_decls all) r))
@@ -188,13 +190,17 @@ module _ (all : List DeclForm) (k : ℕ) (before after : List Value)
   layer_same (Get r f part) (at, e) =
       let inner = known part.0 in
       let seen = record_called around r in
-      let wanted = wanting (option_map (λ (one : RecordSeen). ty.Rec one.of) seen) (at + 4) inner.type in
+      let wanted = wanting (option_map (λ (one : RecordSeen). ty.Rec one.of) seen) (at + 4)
+      inner.type in
       let behind = inner.faults (at + 4) ++ wanted in
       ap (option_and_then (got_value (types_of_decls all) r f))
-      (part.1 (at + 4, no_first (inner.faults (at + 4)) wanted
-      (no_second (field_fault seen (at + 3) f) behind
-      (no_second (unknown_type (at + 2) (type_called around r) seen)
-      (field_fault seen (at + 3) f ++ behind) e))))
+      (part.1 (
+        at + 4,
+        no_first (inner.faults (at + 4)) wanted
+            (no_second (field_fault seen (at + 3) f) behind
+            (no_second (unknown_type (at + 2) (type_called around r) seen)
+            (field_fault seen (at + 3) f ++ behind) e)),
+      ))
 
   -- an expression
   same_value : (e : Expr) → Same e
@@ -207,7 +213,8 @@ module _ (all : List DeclForm) (k : ℕ) (before after : List Value)
 
   -- the cases of the dispatch
   same_first :
-      (at : ℕ) (cases : List When) (otherwise : Phase) → when_faults around at cases otherwise ≡ [] →
+      (at : ℕ) (cases : List When) (otherwise : Phase) →
+      when_faults around at cases otherwise ≡ [] →
       first_true (env before) cases otherwise ≡ first_true (env after) cases otherwise
   same_first at [] otherwise e = refl
   same_first at (case ∷ cases) otherwise e =
@@ -216,7 +223,8 @@ module _ (all : List DeclForm) (k : ℕ) (before after : List Value)
       let test = truth_at around InDispatch [] (at + 2) case.test in
       let inner = known case.test in
       let clean = no_first (inner.faults (at + 2))
-      (unless (agree (Some ty.Bool) inner.type) (at + 2) TypeOther) (no_first test (phases ++ behind) e) in
+      (unless (agree (Some ty.Bool) inner.type) (at + 2) TypeOther)
+      (no_first test (phases ++ behind) e) in
       ap (λ v. if is_true v then case.phase else first_true (env before) cases otherwise)
       (same_value case.test (at + 2, clean))
       ∙ ap (λ p. if is_true (value_of_expr (env after) case.test) then case.phase else p)

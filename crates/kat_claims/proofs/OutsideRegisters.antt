@@ -1,6 +1,6 @@
 -- A register that may be written from outside is neither kept nor read by the dispatch.
-use Rattle.std.proofs.Common.{arith, ◌≡◌, ◌∙◌, ℕ, zero, suc, ◌+◌, ◌<◌, Bool, true, false, not, List, [], ◌∷◌, ◌++◌, get_or, map, slice_get, Option, Some, None, refl, sym, ap, subst, if◌then◌else◌}
-use Rattle.std.specs.Option.{option_map, option_or}
+use Rattle.std.proofs.Common.{arith, ◌≡◌, ◌∙◌, ℕ, zero, suc, ◌+◌, ◌<◌, Bool, true, false, not, List, [], ◌∷◌, ◌++◌, get_or, slice_get, Option, Some, None, refl, sym, ap, subst, if◌then◌else◌}
+use Rattle.std.specs.Option.{option_or}
 use Rattle.std.specs.List.{AllByRecursion}
 use Rattle.std.specs.Str.{bytes_eq}
 use Rattle.std.proofs.lemmas.Bool.{and_parts, eqb-true, false≢true}
@@ -13,10 +13,10 @@ use Rattle.kat_ast.specs.declared.decl.DeclForm.TheVariants as d
 use Rattle.kat_ast.specs.declared.decl.RegisterKind.{RegisterKind}
 use Rattle.kat_ast.specs.declared.decl.RegisterKind.TheVariants as register
 use Rattle.kat_ast.specs.Types.{trees_of_param}
-use Rattle.kat_syntax.specs.declared.places.OutsidePlace.TheVariants.{Register as OutsideRegister, Cells as OutsideCells}
+use Rattle.kat_syntax.specs.declared.places.OutsidePlace.TheVariants.{Register as OutsideRegister}
 use Rattle.kat_syntax.specs.declared.type_rule.TypeRule.TheVariants.{NameTaken}
-use Rattle.kat_syntax.specs.Around.{Around, RegisterSeen, a_register, first_named}
-use Rattle.kat_syntax.specs.Declares.{Declared, ctors_from, declared_by, declared_from, is_type_decl, look_up, members_from, type_of_name}
+use Rattle.kat_syntax.specs.Around.{RegisterSeen, a_register, first_named}
+use Rattle.kat_syntax.specs.Declares.{Declared, ctors_from, declared_by, declared_from, look_up, members_from, type_of_name}
 use Rattle.kat_syntax.specs.OutsideWrites.{outside_from}
 use Rattle.kat_syntax.specs.Tables.{Name, RegisterDecl, register_names, registers_of}
 use Rattle.kat_syntax.specs.TypingDeclarations.{decl_faults, stands_at}
@@ -43,10 +43,24 @@ one_more k x type kind decls at from = record {
   further = suc from.further;
   is = let is = from.is in omega (arith, is);
   there = record {
-        register = from.there.register;
-        there = from.there.there;
-        outside = from.there.outside;
-      };
+    register = from.there.register;
+    there = from.there.there;
+    outside = from.there.outside;
+  };
+}
+
+-- the same registers
+no_more :
+    (k : ℕ) (decls rest : List DeclForm) (at : ℕ) → registers_of decls ≡ registers_of rest →
+    IsOutsideFrom k rest at → IsOutsideFrom k decls at
+no_more k decls rest at same from = record {
+  further = from.further;
+  is = from.is;
+  there = record {
+    register = from.there.register;
+    there = ap (λ all. slice_get all from.further) same ∙ from.there.there;
+    outside = from.there.outside;
+  };
 }
 
 pub outside_register :
@@ -59,10 +73,10 @@ outside_register k (d.Register x type register.Outside ∷ decls) zero at width 
       further = 0;
       is = omega (arith, same);
       there = record {
-            register = record { name = x; type = type; kind = register.Outside };
-            there = refl;
-            outside = refl;
-          };
+        register = record { name = x; type = type; kind = register.Outside };
+        there = refl;
+        outside = refl;
+      };
     }
 outside_register k (d.Register x type register.Outside ∷ decls) (suc n) at width is =
     one_more k x type register.Outside decls at (outside_register (k + 1) decls n at width is)
@@ -72,14 +86,11 @@ outside_register k (d.Register x type register.Protected ∷ decls) n at width i
     one_more k x type register.Protected decls at (outside_register (k + 1) decls n at width is)
 outside_register k (d.Cells cells.Outside low high ∷ decls) zero at width is = absurd (cc)
 outside_register k (d.Cells cells.Outside low high ∷ decls) (suc n) at width is =
-    let more = outside_register k decls n at width is in
-    record { further = more.further; is = more.is; there = record { register = more.there.register; there = more.there.there; outside = more.there.outside } }
+    no_more k _ decls at refl (outside_register k decls n at width is)
 outside_register k (d.Cells cells.Protected low high ∷ decls) n at width is =
-    let more = outside_register k decls n at width is in
-    record { further = more.further; is = more.is; there = record { register = more.there.register; there = more.there.there; outside = more.there.outside } }
+    no_more k _ decls at refl (outside_register k decls n at width is)
 outside_register k (_ ∷ decls) n at width is =
-    let more = outside_register k decls n at width is in
-    record { further = more.further; is = more.is; there = record { register = more.there.register; there = more.there.there; outside = more.there.outside } }
+    no_more k _ decls at refl (outside_register k decls n at width is)
 
 -- one declared name stands at one declaration
 one_place :
@@ -96,7 +107,8 @@ declared_first :
     stands_at k 2 (first_named (declared_by all) x) ≡ true
 declared_first all k x type kind clean =
     met (stands_at k 2 (first_named (declared_by all) x)) 2 NameTaken
-    (no_first _ [] (names_clean (record { decls = all; number = k }) (d.Register x type kind) clean))
+    (no_first _ []
+    (names_clean (record { decls = all; number = k }) (d.Register x type kind) clean))
 
 -- registers of which none has this name
 abbrev HaveOthers : Name → List RegisterDecl → Type 0
@@ -158,8 +170,7 @@ protected_differ all k [] at out clean there outside = tt
 protected_differ all k (d.Register x type kind ∷ decls) zero out clean there outside =
     let is : record { name = x; type = type; kind = kind } ≡ out = cc in
     let others = others_differ all x k (k + 1) decls (omega arith)
-    (declared_first all k x type kind clean.0) clean.1 in
-    (
+    (declared_first all k x type kind clean.0) clean.1 in (
       λ protected same. not_both kind protected
           (ap (λ (one : RegisterDecl). is_outside_kind one.kind) is ∙ outside),
       all_others out.name (registers_of decls)
@@ -167,8 +178,7 @@ protected_differ all k (d.Register x type kind ∷ decls) zero out clean there o
     )
 protected_differ all k (d.Register x type kind ∷ decls) (suc at) out clean there outside =
     let others = others_differ all x k (k + 1) decls (omega arith)
-    (declared_first all k x type kind clean.0) clean.1 in
-    (
+    (declared_first all k x type kind clean.0) clean.1 in (
       λ protected same. other_at x (registers_of decls) at out others there same,
       protected_differ all (k + 1) decls at out clean.1 there outside,
     )
@@ -219,7 +229,7 @@ abbrev chosen :
 chosen b all k p type kind decls r =
     if b
     then option_or (Some (record { kind = kind; type = type_of_name all k type }))
-         (look_up a_register (declared_from all (k + 1) p decls) r)
+    (look_up a_register (declared_from all (k + 1) p decls) r)
     else look_up a_register (declared_from all (k + 1) p decls) r
 
 means_register :
@@ -267,11 +277,11 @@ means_first all k p (d.Record x fields ∷ decls) r q one there same before plai
     means_first all (k + 1) (p + 1) decls r q one there same before (past_one x r _ plain)
 means_first all k p (d.Region x params i e ∷ decls) r q one there same before plain =
     means_first all (k + 1) p decls r q one there same before (past_one x r _ plain)
-means_first all k p (d.Predicate x inputs outputs definition ∷ decls) r q one there same before plain =
+means_first all k p (d.Predicate x ins outs body ∷ decls) r q one there same before plain =
     means_first all (k + 1) p decls r q one there same before (past_one x r _ plain)
 means_first all k p (d.Fun x params result body ∷ decls) r q one there same before plain =
     means_first all (k + 1) p decls r q one there same before (past_one x r _ plain)
-means_first all k p (d.Lemma x params names pre post steps ∷ decls) r q one there same before plain =
+means_first all k p (d.Lemma x params ns pre post steps ∷ decls) r q one there same before plain =
     means_first all (k + 1) p decls r q one there same before (past_one x r _ plain)
 means_first all k p (d.Block block ∷ decls) r q one there same before plain =
     means_first all (k + 1) p decls r q one there same before (past_one block.name r _ plain)

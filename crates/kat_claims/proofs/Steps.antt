@@ -1,6 +1,5 @@
 -- How the small machines boot, and what their statements do.
-use Rattle.std.proofs.Common.{◌≡◌, ◌∙◌, ℕ, ◌+◌, zero, suc, Bool, true, false, List, [], ◌∷◌, Option, Some, None, refl, sym, ap, subst, slice_get}
-use Rattle.std.specs.Prelude.{IsTrue}
+use Rattle.std.proofs.Common.{◌≡◌, ◌∙◌, ℕ, Bool, true, List, [], ◌∷◌, Option, Some, refl, sym, ap, subst}
 use Rattle.kat_value.specs.declared.types.Ty.{Ty}
 use Rattle.kat_value.specs.declared.types.Ty.TheVariants as ty
 use Rattle.kat_value.specs.declared.types.TypeDecl.{TypeDecl}
@@ -25,16 +24,16 @@ use Rattle.kat_ast.specs.declared.stm.Stm.TheOpen as stm
 use Rattle.kat_ast.specs.declared.stm.Stm.TheFolds.{map-Stm, fold-roll-Stm}
 use Rattle.kat_ast.specs.declared.stm.Stm.TheViews.{roll-Stm}
 use Rattle.kat_syntax.specs.Cycle.{CycleOutcome, Completed, as_cycle, cycle_of, stuck_place}
-use Rattle.kat_syntax.specs.Evaluation.{Environment, Locals, Nothing, expr_value, value_of_expr}
+use Rattle.kat_syntax.specs.Evaluation.{Environment, expr_value, value_of_expr}
 use Rattle.kat_syntax.specs.Fragments.{nothing, whole}
 use Rattle.kat_syntax.specs.Holds.{predicates_of}
-use Rattle.kat_syntax.specs.Machine.{MachineState, Progress}
+use Rattle.kat_syntax.specs.Machine.{MachineState}
 use Rattle.kat_syntax.specs.Meaning.{Calls, Part, part_of, part_of_stm}
 use Rattle.kat_syntax.specs.Outcomes.{at_site, inside, place_in}
 use Rattle.kat_syntax.specs.Phases.{Boots, IsGuardedAt, IsWithoutAll, in_dispatch, phase_of, with_kept}
-use Rattle.kat_syntax.specs.Run.{Cycle, Ended, Event, Run, after_cycle, run_from, run_of, with_boundary}
+use Rattle.kat_syntax.specs.Run.{Cycle, Ended, after_cycle, run_from, run_of, with_boundary}
 use Rattle.kat_syntax.specs.States.{IsState, KeptPlace, KeptRegister, KeptCell, kept_places}
-use Rattle.kat_claims.specs.Machines.{block, in_block, machine_of, mode, state_of, when_block}
+use Rattle.kat_claims.specs.Machines.{block, machine_of, mode, state_of, when_block}
 use Rattle.kat_claims.proofs.Layers.{closed}
 
 -- one layer of an expression

@@ -1,5 +1,5 @@
 -- Small machines, to see that security says what it should.
-use Rattle.std.specs.Prelude.{true, false, ℕ, Bool, List, [], ◌∷◌}
+use Rattle.std.specs.Prelude.{true, false, Bool, List, [], ◌∷◌}
 use Rattle.kat_value.specs.declared.op.Op.TheVariants as op
 use Rattle.kat_value.specs.declared.value.Value.TheVariants.{Bool as Truth}
 use Rattle.kat_ast.specs.Spec.{Spec}

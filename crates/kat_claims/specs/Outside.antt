@@ -8,8 +8,8 @@ use Rattle.kat_syntax.specs.Phases.{IsCodeThere, phase_of}
 use Rattle.kat_syntax.specs.States.{kept_of}
 use Rattle.kat_syntax.specs.declared.places.Poke.{Poke}
 
--- of a typed specification, a write from outside that is done, from any state, leaves the phase, the
--- kept values, and whether every code cell has its stated value
+-- of a typed specification, a write from outside that is done, from any state, leaves the phase,
+-- the kept values, and whether every code cell has its stated value
 pub record OutsideWritesKeep : Type 0 where
   pub phase :
       (spec : Spec) (poke : Poke) (before after : MachineState) → IsTyped spec →

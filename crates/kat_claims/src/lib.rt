@@ -6,6 +6,6 @@
 mod laws;
 
 pub use laws::{
-    contracts_go_by_budgets, fragments_join, holders_have_places, only_names_read_count, outside_writes_keep,
-    runs_go_by_events, security_says_what_it_should,
+    contracts_go_by_budgets, fragments_join, holders_have_places, only_names_read_count,
+    outside_writes_keep, runs_go_by_events, security_says_what_it_should,
 };
