@@ -1,22 +1,16 @@
 -- An operation that typing accepts has a value of the type that typing gives.
-use Rattle.std.proofs.Common.{◌≡◌, ℕ, zero, suc, ◌+◌, ◌-◌, ◌<◌, ◌≤◌, ◌&&◌, ◌||◌, eqb, nat_le, nat_lt, Bool, true, false, if◌then◌else◌, List, [], ◌∷◌, length, map, Option, Some, None, refl, sym, ap, subst, ◌∙◌, arith}
-use Rattle.std.specs.Option.{option_map, option_or}
+use Rattle.std.proofs.Common.{◌≡◌, true, if◌then◌else◌, List, [], ◌∷◌, map, Option, Some, None, refl, ap, subst, ◌∙◌}
+use Rattle.std.specs.Option.{option_map}
 use Rattle.std.specs.List.{AllZip}
-use Rattle.std.proofs.lemmas.Bool.{and_parts, and_from, false≢true}
-use Rattle.std.proofs.lemmas.Bool.Decides.{nat_tests}
 use Rattle.kat_value.specs.declared.op.Op.{Op}
-use Rattle.kat_value.specs.declared.op.Op.TheVariants as op
-use Rattle.kat_value.specs.declared.signature.Signature.{Signature}
-use Rattle.kat_value.specs.declared.signature.Signature.TheVariants as signature
 use Rattle.kat_value.specs.declared.types.Ty.{Ty}
-use Rattle.kat_value.specs.declared.types.Ty.TheVariants as ty
 use Rattle.kat_value.specs.declared.types.TypeDecl.{TypeDecl}
 use Rattle.kat_value.specs.declared.value.Value.{Value}
 use Rattle.kat_value.specs.OperationTypes.{ExactOperations, IsExact, IsValueThere, type_of_application}
 use Rattle.kat_value.specs.Operations.{value_of_op}
-use Rattle.kat_value.specs.Shown.{ShownTypes, IsValue, AreValues, type_of_value}
-use Rattle.kat_value.specs.Signatures.{accepts, signature_of, type_given, type_of_op}
-use Rattle.kat_value.specs.Typing.{HasType, has_type}
+use Rattle.kat_value.specs.Shown.{ShownTypes, AreValues, type_of_value}
+use Rattle.kat_value.specs.Signatures.{accepts, signature_of, type_given}
+use Rattle.kat_value.specs.Typing.{HasType}
 
 -- values of these types
 abbrev pub AreTyped : List TypeDecl → List Ty → List Value → Type 0

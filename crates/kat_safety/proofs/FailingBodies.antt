@@ -7,13 +7,12 @@ use Rattle.kat_value.specs.declared.value.Value.TheVariants.{Unit as UnitValue}
 use Rattle.kat_ast.specs.declared.decl.DeclForm.{DeclForm}
 use Rattle.kat_ast.specs.declared.decl.DeclForm.TheVariants as d
 use Rattle.kat_ast.specs.declared.place.Place.{Place}
-use Rattle.kat_ast.specs.declared.type_name.Param.{Param}
 use Rattle.kat_ast.specs.declared.type_name.TypeName.{TypeName}
 use Rattle.kat_ast.specs.declared.stm.Stm.{Stm}
 use Rattle.kat_ast.specs.declared.stm.CaseArm.{CaseArm}
 use Rattle.kat_ast.specs.declared.stm.MatchArm.{MatchArm}
 use Rattle.kat_ast.specs.declared.stm.Stm.TheOpen.{Stm-F, Ret, Let, Seq, If, Case, Match, Read, Write, Load, Store, Call, Check, Fail as FailStm, Open, Close, Lemma}
-use Rattle.kat_ast.specs.declared.stm.Stm.TheViews.{out-Stm, roll-Stm, out-roll-Stm}
+use Rattle.kat_ast.specs.declared.stm.Stm.TheViews.{roll-Stm, out-roll-Stm}
 use Rattle.kat_ast.specs.declared.stm.Stm.TheFolds.{map-Stm, fold-roll-Stm, ind-Stm}
 use Rattle.kat_ast.specs.declared.stm.Stm.TheShapes.{former-Stm-Case-1-at-2 as case_arm, former-Stm-Match-1-at-3 as match_arm}
 use Rattle.kat_ast.specs.Expressions.{trees_of_expr}
@@ -30,7 +29,7 @@ use Rattle.kat_syntax.specs.Meaning as meant
 use Rattle.kat_syntax.specs.Meaning.{Calls, Part, MadeWith, part_of, part_of_stm, does_of, in_sequence, loaded, stored, done_in, plainly, truth_for, number_for, member_of_layer, made_of_layer, meaning}
 use Rattle.kat_syntax.specs.Cycle.{bound, body_of, call_of, spend_one}
 use Rattle.kat_syntax.specs.MeaningLaws.{StatementsByParts}
-use Rattle.kat_safety.specs.Failing.{FailsAt, FailsInBody, StmAt, case_stms_from, fails_itself, match_stms_from, stms_from, stms_in}
+use Rattle.kat_safety.specs.Failing.{FailsAt, FailsInBody, case_stms_from, fails_itself, match_stms_from, stms_from, stms_in}
 
 -- at the tree of this number in one of these statements is one that fails of itself
 record FailsAmong (stms : List (ℕ × Stm)) (at : ℕ) : Type 0 where

@@ -1,16 +1,15 @@
 -- Where an operation takes its arguments, something fixes its type.
-use Rattle.std.proofs.Common.{◌≡◌, ℕ, zero, suc, ◌+◌, ◌-◌, ◌<◌, ◌≤◌, ◌&&◌, eqb, nat_le, nat_lt, Bool, true, false, if◌then◌else◌, List, [], ◌∷◌, length, map, Option, Some, None, refl, sym, ap, subst, ◌∙◌, arith}
+use Rattle.std.proofs.Common.{◌≡◌, ℕ, ◌+◌, ◌-◌, ◌<◌, ◌≤◌, nat_le, nat_lt, Bool, true, false, if◌then◌else◌, List, [], ◌∷◌, length, map, Option, Some, None, refl, sym, ap, subst, ◌∙◌, arith}
 use Rattle.std.specs.Option.{option_or}
 use Rattle.std.specs.List.{AllByRecursion}
-use Rattle.std.proofs.lemmas.Bool.{and_parts, and_from, eqb-true, leb-true, ltb-true, le-leb, false≢true}
+use Rattle.std.proofs.lemmas.Bool.{and_parts, and_from, leb-true, ltb-true, le-leb, false≢true}
 use Rattle.kat_value.specs.declared.op.Op.{Op}
 use Rattle.kat_value.specs.declared.op.Op.TheVariants as op
 use Rattle.kat_value.specs.declared.signature.Signature.{Signature}
 use Rattle.kat_value.specs.declared.signature.Signature.TheVariants as signature
 use Rattle.kat_value.specs.declared.types.Ty.{Ty}
 use Rattle.kat_value.specs.declared.types.Ty.TheVariants as ty
-use Rattle.kat_value.specs.declared.types.TypeDecl.{TypeDecl}
-use Rattle.kat_value.specs.Signatures.{accepts, all_taken, bits_of, fixed_behind, fixed_by, fixed_from, has_place, is_test, joined_bits, signature_of, takes, type_given, widths_fit}
+use Rattle.kat_value.specs.Signatures.{all_taken, bits_of, fixed_behind, fixed_by, fixed_from, is_test, signature_of, takes, type_given, widths_fit}
 use Rattle.kat_value.specs.Widths.{is_width, widest}
 use Rattle.kat_value.specs.Words.{arity_of, is_written}
 

@@ -1,5 +1,5 @@
 -- What is said of a value of an enum or a union by the tables, and all tables of a machine.
-use Rattle.std.proofs.Common.{◌≡◌, ◌⊎◌, inl, inr, ◌∙◌, ℕ, zero, suc, ◌+◌, ◌<◌, ◌≤◌, ◌&&◌, eqb, is_some, nat_lt, Bool, true, false, List, [], ◌∷◌, ◌++◌, map, length, slice_get, Option, Some, None, refl, ap, sym, subst, if◌then◌else◌, arith}
+use Rattle.std.proofs.Common.{◌≡◌, ◌⊎◌, inl, inr, ◌∙◌, ℕ, zero, suc, ◌+◌, nat_lt, Bool, true, false, List, [], ◌∷◌, ◌++◌, length, slice_get, Option, Some, None, refl, ap, sym, subst, if◌then◌else◌, arith}
 use Rattle.std.specs.Prelude.{◌==◌, option_and_then, unwrap_or}
 use Rattle.std.specs.List.{AllByRecursion}
 use Rattle.std.specs.Option.{option_map, option_or}
@@ -17,26 +17,25 @@ use Rattle.kat_value.specs.declared.value.Value.TheOpen as layer
 use Rattle.kat_value.specs.Shown.{ShownTypes}
 use Rattle.kat_value.specs.TypeLaws.{BitsAreNumbers}
 use Rattle.kat_value.specs.Typing.{HasType, ctor_at, ctors_in, has_type, layer_has_type, member_count, members_in, passes_ctor}
-use Rattle.kat_value.specs.Widths.{is_number, is_width}
 use Rattle.kat_ast.specs.declared.decl.DeclForm.{DeclForm}
 use Rattle.kat_ast.specs.declared.decl.DeclForm.TheVariants as d
 use Rattle.kat_ast.specs.declared.type_name.Param.{Param}
 use Rattle.kat_ast.specs.Types.{trees_of_param}
 use Rattle.kat_ast.specs.Spec.{Spec}
-use Rattle.kat_syntax.specs.Around.{Around, CtorSeen, FunctionSeen, a_ctor, a_function, first_named, is_ctor_of, is_member_of, meant, names_that}
-use Rattle.kat_syntax.specs.Declares.{Declared, Meant, AType, AMember, ACtor, ctors_from, declared_by, declared_from, declared_in, look_up, members_from, type_of_name}
+use Rattle.kat_syntax.specs.Around.{CtorSeen, a_ctor, first_named, is_ctor_of, is_member_of, meant, names_that}
+use Rattle.kat_syntax.specs.Declares.{Declared, AType, ACtor, ctors_from, declared_by, declared_from, declared_in, look_up, members_from, type_of_name}
 use Rattle.kat_syntax.specs.Meaning.{MadeWith, made_of_layer, member_of_layer}
-use Rattle.kat_syntax.specs.NamedValues.{ctor_name, ctors_of, member_name, members_of, names_at, names_of_fields}
+use Rattle.kat_syntax.specs.NamedValues.{ctors_of, members_of, names_of_fields}
 use Rattle.kat_syntax.specs.Tables.{Name}
-use Rattle.kat_syntax.specs.TypeTable.{field_of, fields_of, named_type, no_type, types_from, types_of_decls}
+use Rattle.kat_syntax.specs.TypeTable.{field_of, fields_of, no_type, types_from, types_of_decls}
 use Rattle.kat_syntax.specs.TypingDeclarations.{stands_at}
 use Rattle.kat_laws.specs.Runs.{IsMachine}
 use Rattle.kat_safety.specs.Typed.{IsOfKnown}
 use Rattle.kat_safety.proofs.Clean.{AreClean}
 use Rattle.kat_safety.proofs.TypedStatements.{IsNamed, StatementTables}
-use Rattle.kat_safety.proofs.TypedCalls.{IsFound, found_behind, functions_found}
+use Rattle.kat_safety.proofs.TypedCalls.{found_behind, functions_found}
 use Rattle.kat_safety.proofs.RegisterTables.{cell_there, memory_there, read_there, write_there}
-use Rattle.kat_safety.proofs.MemberTables.{HasMember, IsAmong, IsInUnion, member_among, named_among, same_in_union, union_among, union_first}
+use Rattle.kat_safety.proofs.MemberTables.{IsAmong, IsInUnion, member_among, named_among, same_in_union, union_among, union_first}
 
 some_is : {A : Type 0} (x y : A) → Some x ≡ Some y → x ≡ y
 some_is x y e = cc

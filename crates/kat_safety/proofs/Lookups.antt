@@ -1,10 +1,9 @@
 -- What typing finds of names is what the tables of the meaning find.
-use Rattle.std.proofs.Common.{◌≡◌, ◌∙◌, ℕ, zero, suc, ◌+◌, Bool, true, false, cond, not, List, [], ◌∷◌, ◌++◌, map, length, slice_get, Option, Some, None, refl, ap, sym, subst, if◌then◌else◌, arith}
+use Rattle.std.proofs.Common.{◌≡◌, ◌∙◌, ℕ, suc, ◌+◌, Bool, true, false, cond, not, List, [], ◌∷◌, ◌++◌, map, length, slice_get, Option, Some, None, refl, ap, sym, subst, if◌then◌else◌, arith}
 use Rattle.std.specs.Prelude.{nat_lt, position, unwrap_or}
 use Rattle.std.specs.List.{position_or_len}
 use Rattle.std.specs.Option.{option_map, option_or}
 use Rattle.std.specs.Str.{bytes_eq}
-use Rattle.std.proofs.lemmas.Bool.{false≢true}
 use Rattle.std.proofs.lemmas.Bool.Decides.{nat_tests}
 use Rattle.std.proofs.lemmas.Option.{none-some}
 use Rattle.std.proofs.lemmas.Slice.Eq.{bytes_eq-Decides}
@@ -19,7 +18,7 @@ use Rattle.kat_ast.specs.declared.decl.DeclForm.{DeclForm}
 use Rattle.kat_ast.specs.declared.decl.DeclForm.TheVariants as d
 use Rattle.kat_ast.specs.Types.{trees_of_param}
 use Rattle.kat_syntax.specs.Around.{CtorSeen, a_ctor, a_member}
-use Rattle.kat_syntax.specs.Declares.{type_of_name, Declared, Kind, TypeHead, TypedName, ctors_from, declared_from, declared_in, fields_from, is_type_decl, look_up, members_from, type_heads_from, type_named, typed_params}
+use Rattle.kat_syntax.specs.Declares.{type_of_name, Declared, Kind, TypeHead, TypedName, ctors_from, declared_from, declared_in, fields_from, look_up, members_from, type_heads_from, type_named, typed_params}
 use Rattle.kat_syntax.specs.declared.run_tables.CtorPlace.{CtorPlace}
 use Rattle.kat_syntax.specs.NamedValues.{ctor_from, ctors_of, name_of_type, names_of_fields}
 use Rattle.kat_syntax.specs.Tables.{Name}

@@ -1,29 +1,21 @@
 -- The members and constructors of a value are among those that typing wants listed.
-use Rattle.std.proofs.Common.{◌≡◌, ◌⊎◌, inl, inr, ◌∙◌, ℕ, zero, suc, ◌+◌, ◌<◌, ◌≤◌, ◌&&◌, eqb, is_some, nat_lt, Bool, true, false, List, [], ◌∷◌, ◌++◌, map, length, slice_get, Option, Some, None, refl, ap, sym, subst, if◌then◌else◌, arith}
-use Rattle.std.specs.Prelude.{◌==◌, filter, option_and_then, unwrap_or}
-use Rattle.std.specs.List.{AllByRecursion}
-use Rattle.std.specs.Option.{option_map, option_or}
-use Rattle.std.specs.Str.{bytes_eq}
-use Rattle.std.proofs.lemmas.Bool.{and_parts, eqb-true, eq-eqb, false≢true}
-use Rattle.std.proofs.lemmas.Bool.Decides.{nat_tests}
-use Rattle.std.proofs.lemmas.Slice.Eq.{bytes_eq-Decides}
-use Rattle.kat_value.specs.declared.types.Field.{Field}
-use Rattle.kat_value.specs.declared.types.Ty.{Ty}
-use Rattle.kat_value.specs.declared.types.Ty.TheVariants as ty
+use Rattle.std.proofs.Common.{◌≡◌, ◌⊎◌, inl, inr, ◌∙◌, ℕ, zero, suc, ◌+◌, ◌≤◌, Bool, true, false, List, [], ◌∷◌, ◌++◌, map, slice_get, Some, None, refl, ap, sym, subst, if◌then◌else◌, arith}
+use Rattle.std.specs.Prelude.{filter}
+use Rattle.std.proofs.lemmas.Bool.{false≢true}
 use Rattle.kat_value.specs.declared.types.TypeDecl.{TypeDecl}
 use Rattle.kat_value.specs.declared.types.TypeDecl.TheVariants as type
 use Rattle.kat_ast.specs.declared.decl.DeclForm.{DeclForm}
 use Rattle.kat_ast.specs.declared.decl.DeclForm.TheVariants as d
 use Rattle.kat_ast.specs.declared.type_name.Param.{Param}
-use Rattle.kat_ast.specs.Types.{trees_of_param, trees_of_type}
+use Rattle.kat_ast.specs.Types.{trees_of_param}
 use Rattle.kat_syntax.specs.declared.type_rule.TypeRule.TheVariants.{NameTaken}
-use Rattle.kat_syntax.specs.Around.{Around, CtorSeen, a_ctor, first_named, is_ctor_of, is_member_of, meant, names_that}
-use Rattle.kat_syntax.specs.Declares.{Declared, Meant, AMember, ACtor, ctors_from, declared_by, declared_from, declared_in, look_up, members_from, type_of_name}
+use Rattle.kat_syntax.specs.Around.{first_named}
+use Rattle.kat_syntax.specs.Declares.{Declared, Meant, AMember, ctors_from, declared_by, declared_from, declared_in, members_from}
 use Rattle.kat_syntax.specs.NamedValues.{members_of}
 use Rattle.kat_syntax.specs.Tables.{Name}
-use Rattle.kat_syntax.specs.TypeRules.{Fault, unless}
-use Rattle.kat_syntax.specs.TypeTable.{field_of, fields_of, named_type, no_type, types_from, types_of_decls}
-use Rattle.kat_syntax.specs.TypingDeclarations.{own_names, stands_at, taken_names}
+use Rattle.kat_syntax.specs.TypeRules.{unless}
+use Rattle.kat_syntax.specs.TypeTable.{fields_of, types_from}
+use Rattle.kat_syntax.specs.TypingDeclarations.{stands_at, taken_names}
 use Rattle.kat_safety.proofs.Clean.{AreClean, empty_first, empty_second, met, names_clean}
 use Rattle.kat_safety.proofs.TypedStatements.{IsNamed}
 

@@ -1,8 +1,8 @@
 -- The registers and the memory that typing finds are those of the states of a machine.
-use Rattle.std.proofs.Common.{◌≡◌, ◌∙◌, ℕ, zero, suc, ◌+◌, ◌-◌, ◌&&◌, is_some, nat_le, nat_lt, Bool, true, false, cond, not, List, [], ◌∷◌, ◌++◌, map, length, slice_get, Option, Some, None, refl, ap, sym, subst, if◌then◌else◌, arith}
-use Rattle.std.specs.Prelude.{option_and_then, position, unwrap_or}
+use Rattle.std.proofs.Common.{◌≡◌, ◌∙◌, ℕ, zero, suc, ◌+◌, ◌-◌, is_some, nat_le, nat_lt, Bool, true, false, cond, not, List, [], ◌∷◌, ◌++◌, length, slice_get, Option, Some, None, refl, ap, sym, subst, if◌then◌else◌, arith}
+use Rattle.std.specs.Prelude.{option_and_then, unwrap_or}
 use Rattle.std.specs.List.{AllByRecursion, position_or_len}
-use Rattle.std.specs.Option.{option_map, option_or}
+use Rattle.std.specs.Option.{option_map}
 use Rattle.std.specs.Str.{bytes_eq}
 use Rattle.std.proofs.lemmas.Bool.{and_parts, false≢true}
 use Rattle.std.proofs.lemmas.Bool.Decides.{nat_tests}
@@ -19,7 +19,6 @@ use Rattle.kat_value.specs.Widths.{is_number, is_width}
 use Rattle.kat_ast.specs.declared.decl.DeclForm.{DeclForm}
 use Rattle.kat_ast.specs.declared.decl.DeclForm.TheVariants as d
 use Rattle.kat_ast.specs.declared.type_name.Param.{Param}
-use Rattle.kat_ast.specs.Spec.{Spec}
 use Rattle.kat_ast.specs.Types.{trees_of_param}
 use Rattle.kat_syntax.specs.declared.type_rule.TypeRule.TheVariants.{MemoryBounds, MemoryMissing, NoWidth}
 use Rattle.kat_syntax.specs.Around.{Around, RegisterSeen, a_register, meant}
@@ -28,8 +27,7 @@ use Rattle.kat_syntax.specs.Machine.{MachineState}
 use Rattle.kat_syntax.specs.Memories.{Memory, cell_type, has_bounds, index_type, memory_before, memory_from}
 use Rattle.kat_syntax.specs.States.{IsState, are_of_types, cell_at, cell_width, memory_of, register_types, register_types_from, register_value, with_register, written, written_at}
 use Rattle.kat_syntax.specs.Tables.{Name, register_names}
-use Rattle.kat_syntax.specs.TypeRules.{Fault, unless}
-use Rattle.kat_syntax.specs.TypesWritten.{type_faults_at}
+use Rattle.kat_syntax.specs.TypeRules.{unless}
 use Rattle.kat_syntax.specs.TypeTable.{named_type, no_type, types_of_decls}
 use Rattle.kat_syntax.specs.TypingExpressions.{type_of_register}
 use Rattle.kat_safety.specs.Typed.{HasKnownValue, IsOfKnown}

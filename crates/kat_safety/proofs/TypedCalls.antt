@@ -1,6 +1,5 @@
 -- A call of a function with arguments of its parameters' types is not stuck.
-use Rattle.std.proofs.Common.{◌≡◌, ℕ, zero, suc, ◌+◌, ◌&&◌, is_some, Bool, true, false, List, [], ◌∷◌, ◌++◌, map, Option, Some, None, refl, sym, ap, subst, ◌∙◌, if◌then◌else◌}
-use Rattle.std.specs.Prelude.{option_and_then}
+use Rattle.std.proofs.Common.{◌≡◌, ℕ, zero, suc, ◌+◌, is_some, Bool, true, false, List, [], ◌∷◌, ◌++◌, Option, Some, None, refl, sym, ap, subst, ◌∙◌, if◌then◌else◌}
 use Rattle.std.specs.Option.{option_map, option_or}
 use Rattle.std.specs.List.{AllByRecursion, AllZip}
 use Rattle.std.specs.Str.{bytes_eq}
@@ -10,13 +9,12 @@ use Rattle.kat_value.specs.declared.types.Ty.TheVariants as ty
 use Rattle.kat_value.specs.declared.types.TypeDecl.{TypeDecl}
 use Rattle.kat_value.specs.declared.value.Value.{Value}
 use Rattle.kat_value.specs.Shown.{ShownTypes}
-use Rattle.kat_value.specs.Signatures.{agree, bits_of}
+use Rattle.kat_value.specs.Signatures.{agree}
 use Rattle.kat_value.specs.TypeLaws.{UnitIsUnit, BoolIsTruths, BitsAreNumbers}
 use Rattle.kat_value.specs.Typing.{HasType}
 use Rattle.kat_value.specs.Widths.{is_width}
 use Rattle.kat_ast.specs.declared.decl.DeclForm.{DeclForm}
 use Rattle.kat_ast.specs.declared.decl.DeclForm.TheVariants as d
-use Rattle.kat_ast.specs.declared.place.Place.{Place}
 use Rattle.kat_ast.specs.declared.stm.Stm.{Stm}
 use Rattle.kat_ast.specs.declared.type_name.TypeName.{TypeName}
 use Rattle.kat_ast.specs.declared.type_name.TypeName.TheVariants.{Unit as UnitName, Bool as BoolName, Bits as BitsName, Named}
@@ -27,25 +25,24 @@ use Rattle.kat_ast.specs.Spec.{Spec}
 use Rattle.kat_ast.specs.Statements.{is_formed_stm}
 use Rattle.kat_ast.specs.Types.{are_formed_params, is_formed_type, trees_of_param, trees_of_params, trees_of_type}
 use Rattle.kat_syntax.specs.declared.type_rule.TypeRule.TheVariants.{BodyOther, NoWidth, TypeUnknown}
-use Rattle.kat_syntax.specs.Around.{Around, FunctionSeen, a_function, meant}
+use Rattle.kat_syntax.specs.Around.{Around, FunctionSeen, a_function}
 use Rattle.kat_syntax.specs.Cycle.{body_of, bound, call_of, spend_one}
-use Rattle.kat_syntax.specs.Declares.{Declared, Kind, TypedName, ctors_from, declared_by, declared_from, declared_in, is_type_decl, look_up, members_from, type_of_name, typed_params, types_of}
+use Rattle.kat_syntax.specs.Declares.{Declared, Kind, TypedName, ctors_from, declared_by, declared_from, declared_in, look_up, members_from, type_of_name, typed_params, types_of}
 use Rattle.kat_syntax.specs.Evaluation.{Locals, Nothing}
 use Rattle.kat_syntax.specs.Machine.{Progress}
-use Rattle.kat_syntax.specs.Meaning.{Calls, meaning}
+use Rattle.kat_syntax.specs.Meaning.{meaning}
 use Rattle.kat_syntax.specs.MeaningLaws.{StatesStay}
-use Rattle.kat_syntax.specs.Outcomes.{Outcome, Done, Out, Fail, Stuck, at_site, given, inside, place_in}
+use Rattle.kat_syntax.specs.Outcomes.{Outcome, Done, Out, Fail, Stuck, given, place_in}
 use Rattle.kat_syntax.specs.States.{IsState}
 use Rattle.kat_syntax.specs.Tables.{Function, Name, function_from}
-use Rattle.kat_syntax.specs.TypeRules.{Fault, unless}
-use Rattle.kat_syntax.specs.TypesWritten.{Scope, hiding, local_of, param_faults, type_faults_at, type_here, with_params}
+use Rattle.kat_syntax.specs.TypesWritten.{Scope, hiding, local_of, param_faults, type_faults_at}
 use Rattle.kat_syntax.specs.TypeTable.{types_of_decls}
 use Rattle.kat_syntax.specs.TypingDeclarations.{function_faults}
-use Rattle.kat_syntax.specs.TypingExpressions.{Plain, known_of_expr}
+use Rattle.kat_syntax.specs.TypingExpressions.{Plain}
 use Rattle.kat_syntax.specs.TypingStatements.{known_of_stm}
 use Rattle.kat_laws.specs.Runs.{IsMachine}
-use Rattle.kat_safety.specs.NeverStuck.{CallsAreNotStuck, ExpressionsHaveValues, KeepsTypes, StatementsAreNotStuck}
-use Rattle.kat_safety.specs.Typed.{AreOfScope, HasKnownValue, IsOfKnown}
+use Rattle.kat_safety.specs.NeverStuck.{ExpressionsHaveValues, KeepsTypes}
+use Rattle.kat_safety.specs.Typed.{AreOfScope, IsOfKnown}
 use Rattle.kat_safety.proofs.Clean.{AreClean, empty_first, empty_second, inner_clean, met}
 use Rattle.kat_safety.proofs.TypedStatements.{Gives, StatementTables, gives_at, gives_given, statements_give}
 

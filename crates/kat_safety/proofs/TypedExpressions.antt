@@ -1,5 +1,5 @@
 -- An expression without faults has a value of its type.
-use Rattle.std.proofs.Common.{◌≡◌, ℕ, suc, ◌+◌, ◌<◌, ◌^◌, ◌&&◌, eqb, not, is_some, nat_lt, Bool, true, false, List, [], ◌∷◌, ◌++◌, map, length, Option, Some, None, refl, sym, ap, subst, ◌∙◌, arith, if◌then◌else◌}
+use Rattle.std.proofs.Common.{◌≡◌, ℕ, suc, ◌+◌, ◌^◌, ◌&&◌, eqb, not, is_some, nat_lt, Bool, true, false, List, [], ◌∷◌, ◌++◌, map, length, Option, Some, None, refl, sym, ap, subst, ◌∙◌, arith, if◌then◌else◌}
 use Rattle.std.specs.Prelude.{option_and_then}
 use Rattle.std.specs.Option.{option_flatten, option_map}
 use Rattle.std.specs.List.{AllByRecursion}
@@ -38,11 +38,11 @@ use Rattle.kat_syntax.specs.Declares.{TypedName, types_of}
 use Rattle.kat_syntax.specs.Evaluation.{Environment, Locals, Reads, expr_value, literal_value, value_after, value_before, value_kept, value_of_expr, value_of_name, value_read}
 use Rattle.kat_syntax.specs.States.{is_kept_cell, is_kept_register}
 use Rattle.kat_syntax.specs.NamedValues.{got_value, made_value, member_value, rec_value}
-use Rattle.kat_syntax.specs.TypeRules.{Fault, unless}
+use Rattle.kat_syntax.specs.TypeRules.{unless}
 use Rattle.kat_syntax.specs.Memories.{kept_cell_type}
 use Rattle.kat_syntax.specs.TypesWritten.{Scope, local_type}
 use Rattle.kat_syntax.specs.TypeTable.{types_of_decls}
-use Rattle.kat_syntax.specs.TypingExpressions.{Known, Standing, cell_faults, is_outside_kind, is_protected_kind, may_change, may_keep, may_read, register_faults, type_of_register, arg_faults, expr_faults, expr_known, expr_type, field_fault, given_faults, known_of_expr, known_types, member_fault, op_arg_faults, stated_width, unknown, unknown_type, wanting, width_rule}
+use Rattle.kat_syntax.specs.TypingExpressions.{Known, Standing, cell_faults, is_outside_kind, is_protected_kind, may_change, may_keep, may_read, register_faults, type_of_register, arg_faults, expr_faults, expr_known, field_fault, given_faults, known_of_expr, known_types, member_fault, op_arg_faults, stated_width, unknown, unknown_type, wanting, width_rule}
 use Rattle.kat_safety.specs.Typed.{AreOfScope, HasKnownValue, IsOfKnown}
 use Rattle.kat_safety.proofs.AppliedTypes.{AreTyped, HasTyped, applied}
 use Rattle.kat_safety.proofs.Clean.{empty_first, empty_second, met}

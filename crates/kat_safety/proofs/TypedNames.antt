@@ -1,6 +1,6 @@
 -- The values that the tables of types give to members, constructors, records and fields are of the
 -- types that typing finds.
-use Rattle.std.proofs.Common.{◌≡◌, ◌∙◌, ℕ, zero, suc, ◌+◌, ◌&&◌, eqb, is_some, nat_lt, Bool, true, false, cond, List, [], ◌∷◌, map, length, slice_get, Option, Some, None, refl, ap, sym, subst, if◌then◌else◌, arith}
+use Rattle.std.proofs.Common.{◌≡◌, ◌∙◌, ℕ, zero, suc, ◌&&◌, is_some, nat_lt, Bool, true, false, cond, List, [], ◌∷◌, map, length, slice_get, Option, Some, None, refl, ap, sym, subst, if◌then◌else◌, arith}
 use Rattle.std.specs.Prelude.{◌==◌, option_and_then, position, unwrap_or}
 use Rattle.std.specs.List.{AllByRecursion, position_or_len}
 use Rattle.std.specs.Option.{option_flatten, option_map}

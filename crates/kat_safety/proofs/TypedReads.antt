@@ -1,5 +1,5 @@
 -- What expressions read in statements and in the dispatch is of the types that typing finds.
-use Rattle.std.proofs.Common.{◌≡◌, ◌∙◌, ℕ, ◌+◌, ◌&&◌, is_some, not, Bool, true, false, List, [], ◌∷◌, ◌++◌, slice_get, Option, Some, None, refl, ap, sym, subst, if◌then◌else◌}
+use Rattle.std.proofs.Common.{◌≡◌, ◌∙◌, ℕ, ◌+◌, ◌&&◌, is_some, not, Bool, true, false, List, [], slice_get, refl, ap}
 use Rattle.std.specs.Prelude.{IsTrue, option_and_then}
 use Rattle.std.proofs.lemmas.Bool.{false≢true}
 use Rattle.kat_value.specs.declared.value.Value.{Value}
@@ -8,10 +8,9 @@ use Rattle.kat_ast.specs.declared.decl.RegisterKind.{RegisterKind}
 use Rattle.kat_syntax.specs.declared.type_rule.TypeRule.TheVariants.{NameUnknown, NotHere}
 use Rattle.kat_syntax.specs.Around.{Around, a_register, meant}
 use Rattle.kat_syntax.specs.Evaluation.{Reads, Nothing, Registers, KeptValues, BothEnds, value_read}
-use Rattle.kat_syntax.specs.Memories.{is_protected_cell}
 use Rattle.kat_syntax.specs.States.{are_of_types, register_types}
 use Rattle.kat_syntax.specs.Tables.{Name}
-use Rattle.kat_syntax.specs.TypeRules.{Fault, unless}
+use Rattle.kat_syntax.specs.TypeRules.{unless}
 use Rattle.kat_syntax.specs.TypeTable.{types_of_decls}
 use Rattle.kat_syntax.specs.TypingExpressions.{Standing, Plain, InDispatch, WithKept, InChange, cell_faults, is_of_kind, is_outside_kind, is_protected_kind, register_faults, type_of_register, unknown}
 use Rattle.kat_safety.specs.Typed.{AreReadsOf}

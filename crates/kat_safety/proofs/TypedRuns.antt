@@ -1,5 +1,5 @@
 -- Statements, calls, cycles and runs of a machine are not stuck.
-use Rattle.std.proofs.Common.{◌≡◌, ◌≢◌, ◌∙◌, ℕ, zero, suc, ◌+◌, ◌<◌, ◌&&◌, ◌||◌, eqb, is_some, not, Bool, true, false, List, [], ◌∷◌, ◌++◌, length, Option, Some, None, refl, ap, sym, subst, if◌then◌else◌, arith}
+use Rattle.std.proofs.Common.{◌≡◌, ◌≢◌, ℕ, zero, suc, ◌+◌, is_some, true, List, [], ◌∷◌, length, Option, Some, None, refl, sym, subst, arith}
 use Rattle.std.specs.Prelude.{◌==◌}
 use Rattle.std.specs.List.{AllByRecursion, AllZip, list_any}
 use Rattle.std.proofs.lemmas.Bool.{and_parts, eqb-true, false≢true}
@@ -23,12 +23,12 @@ use Rattle.kat_syntax.specs.Machine.{MachineState, Progress}
 use Rattle.kat_syntax.specs.MeaningLaws.{StatementsByParts, StatesStay}
 use Rattle.kat_syntax.specs.Outcomes.{Outcome, Done, Out, Fail, Stuck, at_site, given, inside, place_in}
 use Rattle.kat_syntax.specs.OutsideWrites.{Poked, Wrote, NoPlace, NoFit, poked}
-use Rattle.kat_syntax.specs.Run.{Event, Cycle, OutsideWrite, Run, RunEnd, Ended, FailedIn, OutIn, after_cycle, run_from, run_of, state_behind, with_boundary}
+use Rattle.kat_syntax.specs.Run.{Event, Cycle, OutsideWrite, FailedIn, after_cycle, run_from, state_behind}
 use Rattle.kat_syntax.specs.States.{IsState}
 use Rattle.kat_syntax.specs.Tables.{Function, Name, function_from, step_of}
-use Rattle.kat_syntax.specs.TypeRules.{Fault, unless}
+use Rattle.kat_syntax.specs.TypeRules.{unless}
 use Rattle.kat_syntax.specs.TypeTable.{types_of_decls}
-use Rattle.kat_syntax.specs.TypingDeclarations.{is_second, is_step, may_step}
+use Rattle.kat_syntax.specs.TypingDeclarations.{is_step, may_step}
 use Rattle.kat_syntax.specs.FirstTypeFault.{missing_faults}
 use Rattle.kat_syntax.specs.TypingExpressions.{unknown}
 use Rattle.kat_laws.specs.Runs.{IsMachine}

@@ -1,5 +1,5 @@
 -- A statement without faults is not stuck, and gives values of what typing knows.
-use Rattle.std.proofs.Common.{◌≡◌, ◌⊎◌, inl, inr, ℕ, ◌+◌, ◌&&◌, eqb, nat_lt, is_some, Bool, true, false, List, [], ◌∷◌, ◌++◌, length, map, Option, Some, None, refl, sym, ap, subst, ◌∙◌, arith, if◌then◌else◌}
+use Rattle.std.proofs.Common.{◌≡◌, ◌⊎◌, inl, inr, ℕ, ◌+◌, ◌&&◌, eqb, is_some, Bool, true, false, List, [], ◌∷◌, ◌++◌, length, map, Option, Some, None, refl, sym, ap, subst, ◌∙◌, arith, if◌then◌else◌}
 use Rattle.std.specs.Prelude.{option_and_then, ◌==◌}
 use Rattle.std.specs.Option.{option_map}
 use Rattle.std.specs.List.{AllByRecursion, AllZip, list_all}
@@ -12,15 +12,13 @@ use Rattle.kat_value.specs.declared.types.Ty.{Ty}
 use Rattle.kat_value.specs.declared.types.Ty.TheVariants as ty
 use Rattle.kat_value.specs.declared.types.TypeDecl.{TypeDecl}
 use Rattle.kat_value.specs.declared.value.Value.{Value, out-Value}
-use Rattle.kat_value.specs.declared.value.Value.TheVariants.{Unit as UnitValue, Bool as TruthValue, Bits as Number}
-use Rattle.kat_value.specs.Making.{all_there}
+use Rattle.kat_value.specs.declared.value.Value.TheVariants.{Unit as UnitValue, Bits as Number}
 use Rattle.kat_value.specs.Shown.{ShownTypes}
 use Rattle.kat_value.specs.Signatures.{agree}
 use Rattle.kat_value.specs.TypeLaws.{UnitIsUnit, BoolIsTruths, BitsAreNumbers}
 use Rattle.kat_value.specs.Typing.{HasType}
 use Rattle.kat_value.specs.Widths.{is_number}
 use Rattle.kat_ast.specs.declared.decl.DeclForm.{DeclForm}
-use Rattle.kat_ast.specs.declared.place.Place.{Place}
 use Rattle.kat_ast.specs.declared.expr.Expr.{Expr}
 use Rattle.kat_ast.specs.declared.stm.Stm.{Stm}
 use Rattle.kat_ast.specs.declared.stm.CaseArm.{CaseArm}
@@ -33,7 +31,7 @@ use Rattle.kat_ast.specs.Expressions.{are_formed_exprs, is_formed_expr, trees_of
 use Rattle.kat_ast.specs.Parts.{every, is_name, is_nonempty}
 use Rattle.kat_ast.specs.Statements.{is_formed_case_arm, is_formed_match_arm, is_formed_stm, stm_formed}
 use Rattle.kat_syntax.specs.declared.type_rule.TypeRule.TheVariants.{BranchesDiffer, CountOther, MemoryMissing, NameUnknown, NotListed, TypeOther}
-use Rattle.kat_syntax.specs.Around.{Around, CtorSeen, FunctionSeen, RegisterSeen, a_ctor, a_function, a_member, a_register, as_enum, as_union, is_ctor_of, is_member_of, meant, names_that}
+use Rattle.kat_syntax.specs.Around.{Around, CtorSeen, FunctionSeen, a_ctor, a_function, a_member, a_register, is_ctor_of, is_member_of, meant, names_that}
 use Rattle.kat_syntax.specs.Declares.{TypedName, types_of}
 use Rattle.kat_syntax.specs.Evaluation.{Locals, value_of_expr, values_of_exprs}
 use Rattle.kat_syntax.specs.Machine.{MachineState, Progress}
@@ -41,13 +39,13 @@ use Rattle.kat_syntax.specs.Meaning as means
 use Rattle.kat_syntax.specs.Meaning.{Calls, MadeWith, Part, does_of, done_in, in_sequence, loaded, made_of_layer, member_of_layer, number_for, number_of, part_of, part_of_stm, plainly, stored, truth_for, truth_of}
 use Rattle.kat_syntax.specs.Memories.{Memory, cell_type, index_type, memory_before}
 use Rattle.kat_syntax.specs.Outcomes.{Outcome, Done, Out, Fail, Stuck, StmSite, Here, There, at_site, given, inside, then_do}
-use Rattle.kat_syntax.specs.States.{IsState, cell_at, memory_of, register_value, with_cell, written}
+use Rattle.kat_syntax.specs.States.{IsState, cell_at, memory_of, register_value, written}
 use Rattle.kat_syntax.specs.Tables.{Name}
-use Rattle.kat_syntax.specs.TypeRules.{Fault, unless}
+use Rattle.kat_syntax.specs.TypeRules.{unless}
 use Rattle.kat_syntax.specs.TypesWritten.{Scope, hiding}
 use Rattle.kat_syntax.specs.TypeTable.{types_of_decls}
-use Rattle.kat_syntax.specs.TypingExpressions.{Known, Plain, arg_faults, given_faults, known_of_expr, known_types, parts_faults, type_of_register, unknown, wanting}
-use Rattle.kat_syntax.specs.TypingStatements.{InScope, all_agree, are_listed, case_arm_faults, case_bodies, condition_faults, ctors_wanted, first_known, known_of_stm, last_type, match_arm_faults, match_bodies, may_be_enum, may_be_union, members_wanted, payload_of, plain, plains, same_names, stm_faults, stm_known, stm_type, type_of_branches, without_memory}
+use Rattle.kat_syntax.specs.TypingExpressions.{Plain, arg_faults, given_faults, known_of_expr, known_types, parts_faults, type_of_register, unknown, wanting}
+use Rattle.kat_syntax.specs.TypingStatements.{InScope, all_agree, are_listed, case_arm_faults, case_bodies, condition_faults, ctors_wanted, first_known, known_of_stm, last_type, match_arm_faults, match_bodies, may_be_enum, may_be_union, members_wanted, plain, plains, same_names, stm_known, type_of_branches, without_memory}
 use Rattle.kat_safety.specs.Typed.{AreOfScope, HasKnownValue, IsOfKnown}
 use Rattle.kat_safety.proofs.Clean.{empty_first, empty_second, met}
 

@@ -13,7 +13,7 @@ use Rattle.kat_ast.specs.Spec.{Spec}
 use Rattle.kat_syntax.specs.Around.{Around, FunctionSeen, a_function, meant}
 use Rattle.kat_syntax.specs.Cycle.{Completed, call_of, cycle_of, step_call}
 use Rattle.kat_syntax.specs.Declares.{types_of}
-use Rattle.kat_syntax.specs.Evaluation.{Environment, Locals, Reads, value_of_expr}
+use Rattle.kat_syntax.specs.Evaluation.{Locals, Reads, value_of_expr}
 use Rattle.kat_syntax.specs.Machine.{MachineState, Progress}
 use Rattle.kat_syntax.specs.Meaning.{meaning}
 use Rattle.kat_syntax.specs.Outcomes.{Outcome, Done, Out, Fail, Stuck}
@@ -23,7 +23,7 @@ use Rattle.kat_syntax.specs.States.{IsState}
 use Rattle.kat_syntax.specs.Tables.{Name}
 use Rattle.kat_syntax.specs.TypesWritten.{Scope}
 use Rattle.kat_syntax.specs.TypeTable.{types_of_decls}
-use Rattle.kat_syntax.specs.TypingExpressions.{Known, Standing, known_of_expr}
+use Rattle.kat_syntax.specs.TypingExpressions.{Standing, known_of_expr}
 use Rattle.kat_syntax.specs.TypingStatements.{known_of_stm}
 use Rattle.kat_laws.specs.Runs.{IsMachine}
 use Rattle.kat_safety.specs.Failing.{FailsInBody}
