@@ -1,4 +1,4 @@
--- The counter machine of the documents, whatever its functions do, and a state from which it starts.
+-- The counter machine of the documents, whatever its functions do, and the state of its image.
 use Rattle.std.specs.Prelude.{ℕ, List, [], ◌∷◌, codes}
 use Rattle.kat_value.specs.declared.op.Op.TheVariants as op
 use Rattle.kat_value.specs.declared.value.Value.TheVariants as value
@@ -103,10 +103,11 @@ counter trap user kernel step pre post =
     ∷ d.Boot (codes "handler")
     ∷ []
 
--- its kernel at its first instruction, the kernel's code in the first two cells, all else zero
+-- its image: the kernel at its first instruction, its code in the first two cells, one cell of user
+-- code, and all else zero
 abbrev pub image : MachineState
 image = record {
   registers = value.Member 0 1 ∷ value.Bits 8 0 ∷ value.Bits 8 0 ∷ value.Bits 8 0 ∷ [];
   lo = 0;
-  cells = 1 ∷ 2 ∷ 0 ∷ 0 ∷ 0 ∷ 0 ∷ 0 ∷ 0 ∷ 0 ∷ 0 ∷ 0 ∷ 0 ∷ 0 ∷ 0 ∷ 0 ∷ 0 ∷ [];
+  cells = 1 ∷ 2 ∷ 0 ∷ 0 ∷ 0 ∷ 0 ∷ 0 ∷ 0 ∷ 9 ∷ 0 ∷ 0 ∷ 0 ∷ 0 ∷ 0 ∷ 0 ∷ 0 ∷ [];
 }
