@@ -1,16 +1,16 @@
 -- What a specification without faults of typing says of its declarations, one by one.
 use Rattle.std.proofs.Common.{◌≡◌, ◌≢◌, ℕ, ◌+◌, ◌≤◌, eqb, not, Bool, true, false, List, [], ◌∷◌, ◌++◌, length, refl, arith}
-use Rattle.std.specs.List.{AllByRecursion}
 use Rattle.std.proofs.lemmas.Bool.{and_parts, eq-eqb, false≢true}
 use Rattle.kat_ast.specs.declared.decl.DeclForm.{DeclForm}
 use Rattle.kat_ast.specs.Spec.{Spec}
 use Rattle.kat_syntax.specs.Limits.{most_declarations}
 use Rattle.kat_syntax.specs.declared.type_rule.TypeRule.{TypeRule}
 use Rattle.kat_syntax.specs.declared.type_rule.TypeRule.TheVariants.{TooMany}
-use Rattle.kat_syntax.specs.TypeRules.{Fault, unless}
+use Rattle.kat_syntax.specs.TypeRules.{unless}
 use Rattle.kat_syntax.specs.Around.{Around}
 use Rattle.kat_syntax.specs.TypingDeclarations.{decl_faults, inner_faults, taken_names, own_names, is_in_limits}
-use Rattle.kat_syntax.specs.FirstTypeFault.{IsTyped, faults_from}
+use Rattle.kat_syntax.specs.FirstTypeFault.{IsTyped}
+use Rattle.kat_laws.specs.CleanDeclarations.{AreClean, CleanDeclarations}
 
 -- where two lists together are empty, each is
 pub empty_first : {A : Type 0} (xs ys : List A) → xs ++ ys ≡ [] → xs ≡ []
@@ -25,11 +25,6 @@ empty_second (x ∷ xs) ys e = absurd (let f : x ∷ (xs ++ ys) ≡ [] = e in cc
 pub met : (b : Bool) (tree : ℕ) (rule : TypeRule) → unless b tree rule ≡ [] → b ≡ true
 met true tree rule e = refl
 met false tree rule e = absurd (cc)
-
--- the declarations from a number on have no faults
-abbrev pub AreClean : List DeclForm → ℕ → List DeclForm → Type 0
-AreClean all k decls = AllByRecursion (λ (faults : List Fault). faults ≡ [])
-    (faults_from all k decls)
 
 -- a declaration's own names are the first of their kind
 pub names_clean : (all : List DeclForm) (k : ℕ) (decl : DeclForm) →
@@ -84,3 +79,13 @@ pub few_declarations : (spec : Spec) → IsTyped spec → length spec.decls ≤ 
 few_declarations spec typed =
     let all = few_from spec.decls 0 spec.decls (omega arith) typed in
     omega (arith, all)
+
+pub clean_declarations : CleanDeclarations
+clean_declarations = record {
+  first = λ faults more e. empty_first faults more e;
+  second = λ faults more e. empty_second faults more e;
+  met = met;
+  names = λ around decl e. names_clean around.decls around.number decl e;
+  inner = λ around decl e. inner_clean around.decls around.number decl e;
+  few = few_declarations;
+}

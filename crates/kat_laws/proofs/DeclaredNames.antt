@@ -28,7 +28,8 @@ use Rattle.kat_syntax.specs.TypingDeclarations.{decl_faults, stands_at, taken_na
 use Rattle.kat_syntax.specs.declared.type_rule.TypeRule.TheVariants.{MemoryBounds, NameTaken, NoWidth}
 use Rattle.kat_laws.specs.TextLaw.{AreNames, HasValueNames, IsWord, names_of_parts}
 use Rattle.kat_laws.specs.Runs.{MachinesHaveNames}
-use Rattle.kat_laws.proofs.Clean.{AreClean, empty_first, empty_second, inner_clean, met, names_clean}
+use Rattle.kat_laws.specs.CleanDeclarations.{AreClean}
+use Rattle.kat_laws.proofs.Clean.{empty_first, empty_second, inner_clean, met, names_clean}
 use Rattle.kat_laws.proofs.NameWords.{TokensByParts, IsSpelled, spelled_parts, spelled_word}
 
 -- one declared name stands at one declaration, and at one tree

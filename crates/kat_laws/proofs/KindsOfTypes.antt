@@ -22,7 +22,8 @@ use Rattle.kat_syntax.specs.Declares.{TypeHead, type_heads_from, type_heads, typ
 use Rattle.kat_syntax.specs.TypesWritten.{type_faults_at}
 use Rattle.kat_syntax.specs.States.{register_types_from, register_types}
 use Rattle.kat_syntax.specs.TypeTable.{no_type, named_type, fields_of, types_from, types_of_decls, is_enum, is_union, is_record, may_stand_in}
-use Rattle.kat_laws.proofs.Clean.{AreClean, empty_first, inner_clean, met}
+use Rattle.kat_laws.specs.CleanDeclarations.{AreClean}
+use Rattle.kat_laws.proofs.Clean.{empty_first, inner_clean, met}
 use Rattle.kat_laws.proofs.FirstValues.{HasPart, get_last}
 
 -- a type may stand behind all declared types
@@ -34,7 +35,7 @@ abbrev IsAmong : TypeHead → List TypeHead → Type 0
 IsAmong h [] = ⊥
 IsAmong h (one ∷ heads) = (h ≡ one) ⊎ IsAmong h heads
 
-some_is : {A : Type 0} (x y : A) → Some x ≡ Some y → x ≡ y
+pub some_is : {A : Type 0} (x y : A) → Some x ≡ Some y → x ≡ y
 some_is x y e = cc
 
 named_by : (b : Bool) (one h : TypeHead) (rest : Option TypeHead) (P : Type 0) →

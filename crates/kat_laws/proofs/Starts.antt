@@ -22,7 +22,8 @@ use Rattle.kat_syntax.specs.Start.{first_or_unit}
 use Rattle.kat_syntax.specs.States.{are_of_types, register_types, memory_of, cell_count}
 use Rattle.kat_syntax.specs.TypeTable.{NamesEarlierTypes, types_of_decls}
 use Rattle.kat_laws.specs.Runs.{IsMachine, StartsAreStates}
-use Rattle.kat_laws.proofs.Clean.{AreClean, empty_first, empty_second, inner_clean, met}
+use Rattle.kat_laws.specs.CleanDeclarations.{AreClean}
+use Rattle.kat_laws.proofs.Clean.{empty_first, empty_second, inner_clean, met}
 use Rattle.kat_laws.proofs.FirstValues.{ArePlain, HasFirst, HasPart, types_have_firsts, zero_is_number}
 use Rattle.kat_laws.proofs.KindsOfTypes.{StandsLast, registers_stand, types_have_parts}
 

@@ -22,6 +22,7 @@ use Rattle.kat_print.specs.Lists.{listed}
 use Rattle.kat_print.specs.Terms.{members_of, name_of_type, name_of_member, name_of_ctor}
 use Rattle.kat_print.specs.Values.{text_of_layer, text_of_value}
 use Rattle.kat_laws.specs.TextLaw.{AreNames, HasValueNames, names_of_parts}
+use Rattle.kat_laws.proofs.KindsOfTypes.{some_is}
 use Rattle.kat_laws.proofs.TextNumbers.{Stops, front_told, length-hex_digits, hex_digits_told}
 use Rattle.kat_laws.proofs.TextNames.{IsNamed, name_in, named_at, names_told, part_name, part_within}
 
@@ -106,9 +107,6 @@ passing_fields : (tests : List (Ty → Bool)) (o : Option (List Field)) →
     (all_pass tests fields ≡ true)
 passing_fields tests None h = absurd (false≢true h)
 passing_fields tests (Some fields) h = (fields, refl, h)
-
-some_is : {A : Type 0} (x y : A) → Some x ≡ Some y → x ≡ y
-some_is x y e = cc
 
 -- texts behind spaces do not go on with a word
 stops_behind : (texts : List (List ℕ)) (r : List ℕ) → Stops (behind_spaces texts ++ 41 ∷ r)

@@ -1,3 +1,4 @@
 pub mod TextLaw
 pub mod Runs
 pub mod Images
+pub mod CleanDeclarations

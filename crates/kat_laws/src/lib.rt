@@ -3,10 +3,12 @@
 //! its contract is the law.
 #![tactic(auto)]
 
+mod faults;
 mod images;
 mod runs;
 mod text;
 
+pub use faults::clean_declarations;
 pub use images::images_are_states;
 pub use runs::{machines_have_names, runs_keep_states, starts_are_states, text_tells_its_run};
 pub use text::{text_tells_its_end, text_tells_states};
