@@ -1,12 +1,10 @@
 -- The registers and the memory that typing finds are those of the states of a machine.
-use Rattle.std.proofs.Common.{◌≡◌, ◌∙◌, ℕ, zero, suc, ◌+◌, ◌-◌, is_some, nat_le, nat_lt, Bool, true, false, cond, not, List, [], ◌∷◌, ◌++◌, length, slice_get, Option, Some, None, refl, ap, sym, subst, if◌then◌else◌, arith}
+use Rattle.std.proofs.Common.{◌≡◌, ◌∙◌, ℕ, zero, suc, ◌+◌, ◌-◌, is_some, nat_le, nat_lt, Bool, true, false, not, List, [], ◌∷◌, ◌++◌, slice_get, Option, Some, None, refl, ap, sym, subst, if◌then◌else◌}
 use Rattle.std.specs.Prelude.{option_and_then, unwrap_or}
-use Rattle.std.specs.List.{AllByRecursion, position_or_len}
+use Rattle.std.specs.List.{AllByRecursion}
 use Rattle.std.specs.Option.{option_map}
 use Rattle.std.specs.Str.{bytes_eq}
 use Rattle.std.proofs.lemmas.Bool.{and_parts, false≢true}
-use Rattle.std.proofs.lemmas.Bool.Decides.{nat_tests}
-use Rattle.std.proofs.lemmas.Slice.Eq.{bytes_eq-Decides}
 use Rattle.kat_names.specs.Names.{position_of}
 use Rattle.kat_value.specs.declared.types.Ty.{Ty}
 use Rattle.kat_value.specs.declared.types.Ty.TheVariants as ty
@@ -32,43 +30,8 @@ use Rattle.kat_syntax.specs.TypeTable.{named_type, no_type, types_of_decls}
 use Rattle.kat_syntax.specs.TypingExpressions.{type_of_register}
 use Rattle.kat_safety.specs.Typed.{HasKnownValue, IsOfKnown}
 use Rattle.kat_safety.proofs.Clean.{AreClean, empty_first, empty_second, inner_clean, met}
+use Rattle.kat_safety.proofs.Lookups.{name_next}
 use Rattle.kat_safety.proofs.TypedCalls.{found_behind, type_there}
-
--- both sides of a comparison one higher
-further : (b : Bool) (m l : ℕ) → nat_lt m l ≡ b → nat_lt (suc m) (suc l) ≡ b
-further true m l e = grind (arith, nat_tests)
-further false m l e = grind (arith, nat_tests)
-
-below : (l : ℕ) → nat_lt 0 (suc l) ≡ true
-below l = grind (arith, nat_tests)
-
-here_or_next : (b : Bool) (m l : ℕ) →
-    cond (nat_lt (cond (not b) (1 + m) 0) (suc l)) (Some (cond (not b) (1 + m) 0)) None
-    ≡ (if b then Some 0 else option_map suc (cond (nat_lt m l) (Some m) None))
-here_or_next true m l = ap (λ b. cond b (Some 0) None) (below l)
-here_or_next false m l =
-    let one : 1 + m ≡ suc m = omega arith in
-    ap (λ k. cond (nat_lt k (suc l)) (Some k) None) one
-    ∙ ap (λ b. cond b (Some (suc m)) None) (further (nat_lt m l) m l refl)
-    ∙ elim (nat_lt m l) as
-    (λ b. cond b (Some (suc m)) None ≡ option_map suc (cond b (Some m) None))
-    [ true ↦ refl | false ↦ refl ]
-
-same_truth : (b c : Bool) → (b ≡ true → c ≡ true) → (c ≡ true → b ≡ true) → b ≡ c
-same_truth true c there back = sym (there refl)
-same_truth false true there back = back refl
-same_truth false false there back = refl
-
-either_way : (x y : Name) → bytes_eq x y ≡ bytes_eq y x
-either_way x y = same_truth (bytes_eq x y) (bytes_eq y x)
-    (λ e. (bytes_eq-Decides y x).1 (sym ((bytes_eq-Decides x y).0 e)))
-    (λ e. (bytes_eq-Decides x y).1 (sym ((bytes_eq-Decides y x).0 e)))
-
--- the first place of a name, or one behind it
-next_place : (n : Name) (ns : List Name) (x : Name) →
-    position_of (n ∷ ns) x ≡ (if bytes_eq n x then Some 0 else option_map suc (position_of ns x))
-next_place n ns x = here_or_next (bytes_eq x n) (position_or_len (bytes_eq x) ns) (length ns)
-    ∙ ap (λ b. if b then Some 0 else option_map suc (position_of ns x)) (either_way x n)
 
 no_members : (k p at : ℕ) (members : List Name) →
     AllByRecursion (λ (one : Declared). a_register one.decl one.is ≡ None)
@@ -129,7 +92,7 @@ module _ (all : List DeclForm) (r : Name) where
         by true same later here = record {
           at = 0;
           type = named_type all k type;
-          place = next_place x (register_names decls) r
+          place = name_next x (register_names decls) r
               ∙ ap (λ b. if b then Some 0 else option_map suc (position_of (register_names decls) r))
               same;
           typed = refl;
@@ -139,7 +102,7 @@ module _ (all : List DeclForm) (r : Name) where
             let rest = later o here some in record {
               at = suc rest.at;
               type = rest.type;
-              place = next_place x (register_names decls) r
+              place = name_next x (register_names decls) r
                   ∙ ap (λ b. if b then Some 0
                   else option_map suc (position_of (register_names decls) r)) same
                   ∙ ap (option_map suc) rest.place;
