@@ -189,7 +189,8 @@ module _ (decls : List DeclForm) where
           FailsWhere decls (FailsAmong (stms_at (k + (part s).trees))) o →
           FailsWhere decls (FailsAmong (stms_at (k + trees_of_stm s))) o
       recounted s k stms_at o is =
-          subst (λ n. FailsWhere decls (FailsAmong (stms_at (k + n))) o) (counts.count decls calls s)
+          subst (λ n. FailsWhere decls (FailsAmong (stms_at (k + n))) o)
+          (counts.count decls calls s)
           is
 
       sequence_fails : (at : ℕ) (ss : List FailingStm) →
@@ -261,7 +262,8 @@ module _ (decls : List DeclForm) where
           (λ n fails. fails_inside (first y) n fails) is
 
       layer_fails : (y : Stm-F FailingStm) →
-          FailWhere (FailsAt (roll-Stm (first y))) (does_of decls calls (map-Stm Stm Part part (first y)))
+          FailWhere (FailsAt (roll-Stm (first y)))
+          (does_of decls calls (map-Stm Stm Part part (first y)))
       layer_fails (Ret e) locals p =
           where_given (FailsAt (roll-Stm (Ret e))) (value_of_expr (plainly decls locals) e)
           (λ v. Done v p) (λ v. tt)
@@ -276,7 +278,8 @@ module _ (decls : List DeclForm) where
           (recounted a.0 3 (λ k. (k, b.0) ∷ []) (go v q)
           (part_first b (3 + (part a.0).trees) [] ((x, v) ∷ locals) q))))
       layer_fails (Seq ss) locals p =
-          whole (Seq ss) (in_sequence 2 (map part (stms ss)) locals p) (sequence_fails 2 ss locals p)
+          whole (Seq ss) (in_sequence 2 (map part (stms ss)) locals p)
+          (sequence_fails 2 ss locals p)
       layer_fails (If test a b) locals p =
           let first_at : ℕ = 2 + trees_of_expr test in
           let second_at : ℕ = 2 + trees_of_expr test + (part a.0).trees in
@@ -289,7 +292,8 @@ module _ (decls : List DeclForm) where
           (where_given at (truth_for decls locals test) go (λ holds. where_either at holds one other
           (part_first a first_at more locals p)
           (moved (FailsAmong more) at other (λ n is. among_later (first_at, a.0) more n is)
-          (recounted a.0 first_at (λ k. (k, b.0) ∷ []) other (part_first b second_at [] locals p)))))
+          (recounted a.0 first_at (λ k. (k, b.0) ∷ []) other
+          (part_first b second_at [] locals p)))))
       layer_fails (Case e arms) locals p =
           let member : Option Name =
           option_and_then (λ v. member_of_layer (types_of_decls decls) (out-Value v))
@@ -297,7 +301,8 @@ module _ (decls : List DeclForm) where
           let go : Name → Outcome StmSite = λ m. meant.case_arm m (2 + trees_of_expr e)
           (map (case_arm.map Stm Part part) (case_stms arms)) locals p in
           whole (Case e arms) (given member go)
-          (where_given (FailsAmong (case_stms_from (2 + trees_of_expr e) (case_stms arms))) member go
+          (where_given (FailsAmong (case_stms_from (2 + trees_of_expr e) (case_stms arms)))
+          member go
           (λ m. case_fails m (2 + trees_of_expr e) arms locals p))
       layer_fails (Match e arms) locals p =
           let made : Option MadeWith =
@@ -306,7 +311,8 @@ module _ (decls : List DeclForm) where
           let go : MadeWith → Outcome StmSite = λ m. meant.match_arm m (2 + trees_of_expr e)
           (map (match_arm.map Stm Part part) (match_stms arms)) locals p in
           whole (Match e arms) (given made go)
-          (where_given (FailsAmong (match_stms_from (2 + trees_of_expr e) (match_stms arms))) made go
+          (where_given (FailsAmong (match_stms_from (2 + trees_of_expr e) (match_stms arms)))
+          made go
           (λ m. match_fails m (2 + trees_of_expr e) arms locals p))
       layer_fails (Read r) locals p =
           where_given (FailsAt (roll-Stm (Read r))) (register_value decls r p.state.registers)
@@ -356,7 +362,8 @@ module _ (decls : List DeclForm) where
       statements_fail = ind-Stm (λ s. FailWhere (FailsAt s) (part s).does) (λ x y is.
           subst (λ (one : Part). FailWhere (FailsAt (roll-Stm x)) one.does)
           (sym (fold-roll-Stm Part (part_of decls calls) x))
-          (subst (λ z. FailWhere (FailsAt (roll-Stm z)) (does_of decls calls (map-Stm Stm Part part z)))
+          (subst (λ z. FailWhere (FailsAt (roll-Stm z))
+          (does_of decls calls (map-Stm Stm Part part z)))
           is (layer_fails y)))
 
 -- a function that is found is declared so

@@ -15,8 +15,8 @@ use Rattle.kat_ast.specs.Statements.{trees_of_stm}
 use Rattle.kat_ast.specs.Types.{trees_of_params, trees_of_type}
 use Rattle.kat_syntax.specs.Tables.{Name}
 
--- whether a statement fails of itself, and not in a part or a call: a `fail`, a `check`, a `load` or
--- a `store`
+-- whether a statement fails of itself, and not in a part or a call: a `fail`, a `check`, a `load`
+-- or a `store`
 abbrev pub fails_itself : Stm-F Stm → Bool
 fails_itself Fail = true
 fails_itself (Check e) = true
