@@ -6,3 +6,4 @@ mod Said
 mod Settings
 mod Places
 mod Reading
+mod Printed

@@ -3,4 +3,5 @@ pub mod ValueText
 pub mod Lines
 pub mod Image
 pub mod ImageError
+pub mod ImageText
 pub mod Reader

@@ -9,6 +9,7 @@ mod image;
 mod laws;
 mod line;
 mod numbers;
+mod print;
 mod setting;
 mod unread;
 mod value;
@@ -18,4 +19,5 @@ pub use image::read_image;
 pub use laws::{
     lines_are_the_text, lines_set_places, no_lines_are_the_start, one_refusal, one_state,
 };
+pub use print::print_image;
 pub use setting::Setting;
