@@ -5,5 +5,6 @@ pub mod Means
 pub mod Owed
 pub mod Pairs
 pub mod Prove
+pub mod Same
 pub mod Settled
 pub mod Sought

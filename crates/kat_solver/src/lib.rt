@@ -4,6 +4,7 @@
 mod add;
 mod agenda;
 mod frames;
+mod kept;
 mod laws;
 mod left;
 mod moving;
@@ -11,6 +12,7 @@ mod normed;
 mod pairs;
 mod prove;
 mod prover;
+mod same;
 mod search;
 mod settled;
 

@@ -2,27 +2,46 @@
 
 ghost use Rattle.kat_solver.specs.Means.{SolverLaws};
 
-use crate::add::settle;
+use crate::kept::Kept;
 use crate::laws::solver_laws;
-use crate::left::left;
-use crate::settled::pairs_of;
-use kat_norm::rewrite;
+use crate::left::left_in;
+use crate::normed::rewrite_in;
 use kat_term::{Answer, NormError, Prover, Term, World};
 use std::alloc::{AllocError, Global};
 
-/// A prover by rules alone. It settles the formulas of a world anew for each question, and keeps
-/// nothing from one to the next.
+/// A prover by rules alone. It settles the formulas of a world, and asks of what is settled again
+/// where the next question is asked in an equal world.
 #[derive(Drop)]
 pub struct RuleProver {
     alloc: Global,
+    kept: Kept,
     ghost laws: { ∥ SolverLaws ∥₁ },
 }
 
 impl RuleProver {
+    ghost use Rattle.std.specs.Prelude.{◌≡◌, OnOk};
+    ghost use Rattle.kat_known.specs.Normal.{norm_in};
+    ghost use Rattle.kat_solver.specs.Add.{settled_of};
+
     /// A prover. It takes no memory.
     pub fn new(alloc: Global) -> RuleProver {
         solver_laws();
-        RuleProver { alloc }
+        RuleProver {
+            alloc,
+            kept: Kept::new(alloc),
+        }
+    }
+
+    /// Settles the formulas of a world, unless they are settled.
+    fn keep(&mut self, world: &World) -> Result<(), AllocError>
+        ensures { OnOk result (self.new.kept.settled
+            ≡ settled_of world.now.vars (norm_in world.now.vars) world.now.formulas) }
+    {
+        if self.kept.is_of(world) {
+            return Ok(());
+        }
+        self.kept = Kept::of(self.alloc, world)?;
+        Ok(())
     }
 }
 
@@ -37,14 +56,14 @@ impl Prover for RuleProver {
     /// The normal form of a term under the substitution of the settled formulas; that of a
     /// contradiction is empty. `Nodes`, `Depth` and `Rules` come exactly where a limit is passed.
     fn norm(&mut self, world: &World, term: Term) -> Result<Term, NormError> {
-        let settled = settle(self.alloc, world)?;
-        let pairs = pairs_of(self.alloc, settled);
-        rewrite(self.alloc, world, &pairs, term)
+        self.keep(world)?;
+        rewrite_in(self.alloc, world, &self.kept.settled, term)
     }
 
     /// What is left of a goal.
     fn prove(&mut self, world: &World, goal: &Term) -> Result<Answer, AllocError> {
-        left(self.alloc, world, goal)
+        self.keep(world)?;
+        left_in(self.alloc, world, &self.kept.settled, goal)
     }
 
     ghost limits = { λ prover. limits_owed prover.laws };

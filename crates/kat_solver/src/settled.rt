@@ -1,7 +1,8 @@
 //! Settled worlds.
 
 ghost use Rattle.std.specs.Prelude.{◌≡◌, IfOk};
-ghost use Rattle.kat_solver.specs.Settled.{unsettled, list_of, pairs_of};
+ghost use Rattle.kat_solver.specs.declared.settled.Settled.TheVariants.{Open};
+ghost use Rattle.kat_solver.specs.Settled.{unsettled, list_of};
 
 use kat_norm::{Pair, Substitution};
 use kat_term::{Term, Terms, copy_term, copy_terms};
@@ -39,30 +40,23 @@ pub fn list_of(settled: &Settled) -> &[Term]
     }
 }
 
-/// The substitution of a settled world; that of a closed one is empty.
-pub fn pairs_of(alloc: Global, settled: Settled) -> Substitution
-    ensures { result ≡ pairs_of settled }
-{
-    match settled {
-        Settled::Closed => Items::new(alloc),
-        Settled::Open { pairs, .. } => pairs,
-    }
-}
-
 /// An equal settled world.
 pub fn copy_settled(alloc: Global, settled: &Settled) -> Result<Settled, AllocError>
     ensures { IfOk result (λ s. s ≡ settled.now) }
 {
     match settled {
         Settled::Closed => Ok(Settled::Closed),
-        Settled::Open { pairs, list } => {
-            let list = copy_terms(alloc, list.as_slice())?;
-            Ok(Settled::Open {
-                pairs: copy_pairs(alloc, pairs)?,
-                list,
-            })
-        }
+        Settled::Open { pairs, list } => copy_open(alloc, pairs, list),
     }
+}
+
+/// A settled world of an equal substitution and an equal list.
+pub fn copy_open(alloc: Global, pairs: &Substitution, list: &Terms) -> Result<Settled, AllocError>
+    ensures { IfOk result (λ s. s ≡ Open pairs.now list.now) }
+{
+    let list = copy_terms(alloc, list.as_slice())?;
+    let pairs = copy_pairs(alloc, pairs)?;
+    Ok(Settled::Open { pairs, list })
 }
 
 /// An equal substitution.
