@@ -9,6 +9,7 @@ mod TypedCalls
 mod RegisterTables
 mod MemberTables
 mod LayerTables
+mod KeptReads
 mod TypedReads
 mod FailingBodies
 mod TypedRuns

@@ -1,10 +1,10 @@
 -- The registers and the memory that typing finds are those of the states of a machine.
-use Rattle.std.proofs.Common.{◌≡◌, ◌∙◌, ℕ, zero, suc, ◌+◌, ◌-◌, is_some, nat_le, nat_lt, Bool, true, false, not, List, [], ◌∷◌, ◌++◌, slice_get, Option, Some, None, refl, ap, sym, subst, if◌then◌else◌}
-use Rattle.std.specs.Prelude.{option_and_then, unwrap_or}
-use Rattle.std.specs.List.{AllByRecursion}
+use Rattle.std.proofs.Common.{◌≡◌, ◌∙◌, ℕ, zero, suc, ◌+◌, ◌-◌, is_some, nat_le, nat_lt, Bool, true, false, not, List, [], ◌∷◌, ◌++◌, map, slice_get, Option, Some, None, refl, ap, sym, subst, if◌then◌else◌}
+use Rattle.std.specs.Prelude.{filter_map, option_and_then, unwrap_or}
+use Rattle.std.specs.List.{AllByRecursion, cons_option, list_any}
 use Rattle.std.specs.Option.{option_map}
 use Rattle.std.specs.Str.{bytes_eq}
-use Rattle.std.proofs.lemmas.Bool.{and_parts, false≢true}
+use Rattle.std.proofs.lemmas.Bool.{and_parts, false≢true, or_left, or_right}
 use Rattle.kat_names.specs.Names.{position_of}
 use Rattle.kat_value.specs.declared.types.Ty.{Ty}
 use Rattle.kat_value.specs.declared.types.Ty.TheVariants as ty
@@ -23,11 +23,11 @@ use Rattle.kat_syntax.specs.Around.{Around, RegisterSeen, a_register, meant}
 use Rattle.kat_syntax.specs.Declares.{Declared, ctors_from, declared_from, declared_in, look_up, members_from, type_of_name}
 use Rattle.kat_syntax.specs.Machine.{MachineState}
 use Rattle.kat_syntax.specs.Memories.{Memory, cell_type, has_bounds, index_type, memory_before, memory_from}
-use Rattle.kat_syntax.specs.States.{IsState, are_of_types, cell_at, cell_width, memory_of, register_types, register_types_from, register_value, with_register, written, written_at}
-use Rattle.kat_syntax.specs.Tables.{Name, register_names}
+use Rattle.kat_syntax.specs.States.{IsState, KeptPlace, KeptRegister, are_of_types, cell_at, cell_width, is_kept_register, kept_register, memory_of, register_types, register_types_from, register_value, with_register, written, written_at}
+use Rattle.kat_syntax.specs.Tables.{Name, RegisterDecl, register_names, registers_of}
 use Rattle.kat_syntax.specs.TypeRules.{unless}
 use Rattle.kat_syntax.specs.TypeTable.{named_type, no_type, types_of_decls}
-use Rattle.kat_syntax.specs.TypingExpressions.{type_of_register}
+use Rattle.kat_syntax.specs.TypingExpressions.{is_of_kind, is_protected_kind, type_of_register}
 use Rattle.kat_safety.specs.Typed.{HasKnownValue, IsOfKnown}
 use Rattle.kat_safety.proofs.Clean.{AreClean, empty_first, empty_second, inner_clean, met}
 use Rattle.kat_safety.proofs.Lookups.{name_next}
@@ -46,14 +46,26 @@ no_ctors all k p at [] = tt
 no_ctors all k p at (ctor ∷ ctors) =
     (refl, no_ctors all k p (at + trees_of_param ctor) ctors)
 
--- a register that typing knows: its position, and its type, which is fixed
-pub record IsPlaced (names : List Name) (ts : List Ty) (r : Name) (known : Option Ty) :
-    Type 0 where
+-- a register that typing knows: its position, its type, which is fixed, and that it is kept where
+-- it is protected
+pub record IsPlaced (registers : List RegisterDecl) (ts : List Ty) (r : Name)
+    (o : Option RegisterSeen) : Type 0 where
   pub at : ℕ
   pub type : Ty
-  pub place : position_of names r ≡ Some at
+  pub place : position_of (map (λ (one : RegisterDecl). one.name) registers) r ≡ Some at
   pub typed : slice_get ts at ≡ Some type
-  pub fixed : known ≡ Some type
+  pub fixed : option_and_then (λ (seen : RegisterSeen). seen.type) o ≡ Some type
+  pub kept :
+      is_of_kind is_protected_kind o ≡ true →
+      list_any (is_kept_register r) (filter_map kept_register registers) ≡ true
+
+-- where a place is kept, the kept registers with one more have it
+kept_next : (r : Name) (o : Option KeptPlace) (places : List KeptPlace) →
+    list_any (is_kept_register r) places ≡ true →
+    list_any (is_kept_register r) (cons_option o places) ≡ true
+kept_next r None places any = any
+kept_next r (Some place) places any =
+    or_right (is_kept_register r place) (list_any (is_kept_register r) places) any
 
 fixed_is : (o : Option Ty) → is_some o ≡ true → o ≡ Some (unwrap_or o no_type)
 fixed_is None e = absurd (false≢true e)
@@ -63,15 +75,13 @@ module _ (all : List DeclForm) (r : Name) where
   abbrev Placed : ℕ → ℕ → List DeclForm → Type 0
   Placed k p decls = (o : Option RegisterSeen) →
       look_up a_register (declared_from all k p decls) r ≡ o → is_some o ≡ true →
-      IsPlaced (register_names decls) (register_types_from all k decls) r
-      (option_and_then (λ (seen : RegisterSeen). seen.type) o)
+      IsPlaced (registers_of decls) (register_types_from all k decls) r o
 
   other : (k p q : ℕ) (ds : List Declared) (decls : List DeclForm) (o : Option RegisterSeen) →
       AllByRecursion (λ (one : Declared). a_register one.decl one.is ≡ None) ds →
       Placed (k + 1) q decls →
       look_up a_register (ds ++ declared_from all (k + 1) q decls) r ≡ o → is_some o ≡ true →
-      IsPlaced (register_names decls) (register_types_from all (k + 1) decls) r
-      (option_and_then (λ (seen : RegisterSeen). seen.type) o)
+      IsPlaced (registers_of decls) (register_types_from all (k + 1) decls) r o
   other k p q ds decls o none later e some =
       later o (sym (found_behind a_register ds (declared_from all (k + 1) q decls) r none) ∙ e) some
 
@@ -83,12 +93,18 @@ module _ (all : List DeclForm) (r : Name) where
         fixed = fixed_is (type_of_name all k type) (type_there all k 3 type
             (empty_first _ _ (inner_clean all k (d.Register x type kind) clean.0)))
 
+        kept_here : (b : Bool) → b ≡ true → bytes_eq x r ≡ true →
+            list_any (is_kept_register r) (cons_option (if b then Some (KeptRegister x) else None)
+            (filter_map kept_register (registers_of decls))) ≡ true
+        kept_here true is same = or_left (bytes_eq x r)
+            (list_any (is_kept_register r) (filter_map kept_register (registers_of decls))) same
+        kept_here false is same = absurd (false≢true is)
+
         by : (b : Bool) → bytes_eq x r ≡ b → Placed (k + 1) p decls →
             (if b then Some (record { kind = kind; type = type_of_name all k type })
             else look_up a_register (declared_from all (k + 1) p decls) r) ≡ o →
-            IsPlaced (register_names (d.Register x type kind ∷ decls))
-            (register_types_from all k (d.Register x type kind ∷ decls)) r
-            (option_and_then (λ (seen : RegisterSeen). seen.type) o)
+            IsPlaced (registers_of (d.Register x type kind ∷ decls))
+            (register_types_from all k (d.Register x type kind ∷ decls)) r o
         by true same later here = record {
           at = 0;
           type = named_type all k type;
@@ -97,6 +113,8 @@ module _ (all : List DeclForm) (r : Name) where
               same;
           typed = refl;
           fixed = sym (ap (option_and_then (λ (seen : RegisterSeen). seen.type)) here) ∙ fixed;
+          kept = λ is. kept_here (is_protected_kind kind)
+              (ap (is_of_kind is_protected_kind) here ∙ is) same;
         }
         by false same later here =
             let rest = later o here some in record {
@@ -108,6 +126,9 @@ module _ (all : List DeclForm) (r : Name) where
                   ∙ ap (option_map suc) rest.place;
               typed = rest.typed;
               fixed = rest.fixed;
+              kept = λ is. kept_next r
+                  (kept_register (record { name = x; type = type; kind = kind }))
+                  (filter_map kept_register (registers_of decls)) (rest.kept is);
             }
   registers_placed k p (d.Enum x members ∷ decls) clean o e some =
       other k p (p + 1) (declared_in all k p (d.Enum x members)) decls o
@@ -208,7 +229,7 @@ write_there shown decls k clean r v (Some t) s is some agrees typed =
     )
 
 -- the widths of a declared memory
-memory_wide : (all : List DeclForm) (k : ℕ) (decls : List DeclForm) → AreClean all k decls →
+pub memory_wide : (all : List DeclForm) (k : ℕ) (decls : List DeclForm) → AreClean all k decls →
     (m : Memory) → memory_from k decls ≡ Some m →
     (is_width m.index_width ≡ true) × (is_width m.cell_width ≡ true)
 memory_wide all k [] clean m e = absurd (let f : None ≡ Some m = e in cc)

@@ -1,8 +1,9 @@
--- What expressions read in statements and in the dispatch is of the types that typing finds.
+-- What expressions read where they stand is of the types that typing finds.
 use Rattle.std.proofs.Common.{◌≡◌, ◌∙◌, ℕ, ◌+◌, ◌&&◌, is_some, not, Bool, true, false, List, [], slice_get, refl, ap}
 use Rattle.std.specs.Prelude.{IsTrue, option_and_then}
 use Rattle.std.proofs.lemmas.Bool.{false≢true}
 use Rattle.kat_value.specs.declared.value.Value.{Value}
+use Rattle.kat_value.specs.TypeLaws.{BitsAreNumbers}
 use Rattle.kat_ast.specs.declared.decl.DeclForm.{DeclForm}
 use Rattle.kat_ast.specs.declared.decl.RegisterKind.{RegisterKind}
 use Rattle.kat_syntax.specs.declared.type_rule.TypeRule.TheVariants.{NameUnknown, NotHere}
@@ -15,10 +16,12 @@ use Rattle.kat_syntax.specs.TypeTable.{types_of_decls}
 use Rattle.kat_syntax.specs.TypingExpressions.{Standing, Plain, InDispatch, WithKept, InChange, cell_faults, is_of_kind, is_outside_kind, is_protected_kind, register_faults, type_of_register, unknown}
 use Rattle.kat_safety.specs.Typed.{AreReadsOf}
 use Rattle.kat_safety.proofs.Clean.{AreClean, empty_first, empty_second, met}
+use Rattle.kat_safety.proofs.KeptReads.{kept_cell_given, kept_register_given}
 use Rattle.kat_safety.proofs.RegisterTables.{registers_placed, value_typed}
 use Rattle.kat_safety.proofs.TypedExpressions.{IsGiven, ReadsAlike}
 
-module _ (decls : List DeclForm) (k : ℕ) (clean : AreClean decls 0 decls) where
+module _ (numbers : BitsAreNumbers) (decls : List DeclForm) (k : ℕ)
+    (clean : AreClean decls 0 decls) where
   abbrev around : Around
   around = record { decls = decls; number = k }
 
@@ -54,7 +57,7 @@ module _ (decls : List DeclForm) (k : ℕ) (clean : AreClean decls 0 decls) wher
         typed = v.2;
       }
 
-  -- what is read is given, in statements and in the dispatch
+  -- what is read is given, wherever an expression stands
   pub reads_alike : (standing : Standing) (reads : Reads) → AreReadsOf decls standing reads →
       ReadsAlike decls k standing reads
   reads_alike Plain Nothing are = record {
@@ -76,11 +79,33 @@ module _ (decls : List DeclForm) (k : ℕ) (clean : AreClean decls 0 decls) wher
     before_cell = λ n at none. absurd (no_cell at n none);
     after_cell = λ n at none. absurd (no_cell at n none);
   }
+  reads_alike WithKept (KeptValues kept) are = record {
+    register = λ r at none. absurd (no_register (λ kind. not (is_outside_kind kind)) at r none);
+    kept = λ r at none. kept_register_given numbers decls k clean kept are at r none;
+    before = λ r at none. absurd (no_register is_protected_kind at r none);
+    after = λ r at none. absurd (no_register is_protected_kind at r none);
+    kept_cell = λ n at none. kept_cell_given numbers decls k clean kept are n at none;
+    before_cell = λ n at none. absurd (no_cell at n none);
+    after_cell = λ n at none. absurd (no_cell at n none);
+  }
+  reads_alike InChange (BothEnds before after) are = record {
+    register = λ r at none. absurd (no_register (λ kind. not (is_outside_kind kind)) at r none);
+    kept = λ r at none. absurd (no_register is_protected_kind at r none);
+    before = λ r at none. kept_register_given numbers decls k clean before are.0 at r none;
+    after = λ r at none. kept_register_given numbers decls k clean after are.1 at r none;
+    kept_cell = λ n at none. absurd (no_cell at n none);
+    before_cell = λ n at none. kept_cell_given numbers decls k clean before are.0 n at none;
+    after_cell = λ n at none. kept_cell_given numbers decls k clean after are.1 n at none;
+  }
   reads_alike Plain (Registers registers) are = absurd are
   reads_alike Plain (KeptValues kept) are = absurd are
   reads_alike Plain (BothEnds before after) are = absurd are
   reads_alike InDispatch Nothing are = absurd are
   reads_alike InDispatch (KeptValues kept) are = absurd are
   reads_alike InDispatch (BothEnds before after) are = absurd are
-  reads_alike WithKept reads are = absurd are
-  reads_alike InChange reads are = absurd are
+  reads_alike WithKept Nothing are = absurd are
+  reads_alike WithKept (Registers registers) are = absurd are
+  reads_alike WithKept (BothEnds before after) are = absurd are
+  reads_alike InChange Nothing are = absurd are
+  reads_alike InChange (Registers registers) are = absurd are
+  reads_alike InChange (KeptValues kept) are = absurd are

@@ -33,8 +33,8 @@ use Rattle.kat_safety.specs.Typed.{IsOfKnown, HasKnownValue, AreOfScope, AreRead
 abbrev pub around_of : Spec → ℕ → Around
 around_of spec k = record { decls = spec.decls; number = k }
 
--- an expression without faults has, in a statement or a condition of the dispatch, a value of its
--- type, among locals of its scope and where it reads what typing takes there
+-- an expression without faults has, wherever it stands, a value of its type, among locals of its
+-- scope and where it reads what typing takes there
 abbrev pub ExpressionsHaveValues : Type 0
 ExpressionsHaveValues =
     (spec : Spec) (k at : ℕ) (standing : Standing) (reads : Reads) →

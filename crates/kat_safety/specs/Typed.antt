@@ -1,5 +1,5 @@
 -- Values of what typing knows of their types: of expressions, of locals, and of what expressions read
--- in statements and in the dispatch.
+-- where they stand.
 use Rattle.std.specs.Prelude.{◌≡◌, IsTrue, List, Option, Some, None}
 use Rattle.std.specs.List.{AllZip}
 use Rattle.kat_value.specs.declared.types.Ty.{Ty}
@@ -8,12 +8,13 @@ use Rattle.kat_value.specs.declared.value.Value.{Value}
 use Rattle.kat_value.specs.Typing.{HasType}
 use Rattle.kat_ast.specs.declared.decl.DeclForm.{DeclForm}
 use Rattle.kat_syntax.specs.Declares.{TypedName}
-use Rattle.kat_syntax.specs.Evaluation.{Locals, Reads, Nothing, Registers}
-use Rattle.kat_syntax.specs.States.{are_of_types, register_types}
+use Rattle.kat_syntax.specs.Evaluation.{Locals, Reads, Nothing, Registers, KeptValues, BothEnds}
+use Rattle.kat_syntax.specs.Machine.{MachineState}
+use Rattle.kat_syntax.specs.States.{IsState, are_of_types, kept_of, register_types}
 use Rattle.kat_syntax.specs.Tables.{Name}
 use Rattle.kat_syntax.specs.TypesWritten.{Scope}
 use Rattle.kat_syntax.specs.TypeTable.{types_of_decls}
-use Rattle.kat_syntax.specs.TypingExpressions.{Standing, Plain, InDispatch}
+use Rattle.kat_syntax.specs.TypingExpressions.{Standing, Plain, InDispatch, WithKept, InChange}
 
 -- a value is of what typing knows of its type: where nothing fixes the type, there is no value
 abbrev pub IsOfKnown : List TypeDecl → Option Ty → Value → Type 0
@@ -35,10 +36,18 @@ IsLocal types known local = (known.name ≡ local.0) × IsOfKnown types known.ty
 abbrev pub AreOfScope : List TypeDecl → Scope → Locals → Type 0
 AreOfScope types scope locals = AllZip (IsLocal types) scope locals
 
--- what expressions read is what typing takes where they stand: nothing in a statement, and in a
--- condition of the dispatch a value for each register
+-- values are those of the kept places of a state of the machine
+abbrev pub AreKept : List DeclForm → List Value → Type 0
+AreKept decls kept =
+    (state : MachineState) × IsState decls state × (kept ≡ kept_of decls state)
+
+-- what expressions read is what typing takes where they stand: nothing in a statement, in a condition
+-- of the dispatch a value for each register, kept values in the untrusted assertion and entries, and
+-- in a `change` those before a block and behind it
 abbrev pub AreReadsOf : List DeclForm → Standing → Reads → Type 0
 AreReadsOf decls Plain Nothing = Unit {0}
 AreReadsOf decls InDispatch (Registers registers) =
     IsTrue (are_of_types (types_of_decls decls) (register_types decls) registers)
+AreReadsOf decls WithKept (KeptValues kept) = AreKept decls kept
+AreReadsOf decls InChange (BothEnds before after) = AreKept decls before × AreKept decls after
 AreReadsOf decls _ _ = ⊥

@@ -5,8 +5,9 @@ ghost use Rattle.kat_safety.specs.NeverStuck.{ExpressionsHaveValues, StatementsA
 use kat_syntax::{statements_do_their_parts, states_stay, types_name_earlier_ones};
 use kat_value::{operations_are_exact, types_of_values, values_show_types};
 
-/// An expression without faults of typing has a value of its type, in a statement or a condition
-/// of the dispatch, among locals of its scope.
+/// An expression without faults of typing has a value of its type, among locals of its scope,
+/// wherever it stands: in a statement, in a condition of the dispatch, over kept values in the
+/// untrusted assertion and in entries, and over those of both ends in the change of a block.
 pub fn typed_expressions_have_values()
     ensures { ExpressionsHaveValues }
 {
