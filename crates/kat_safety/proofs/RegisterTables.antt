@@ -109,8 +109,8 @@ module _ (all : List DeclForm) (r : Name) where
           at = 0;
           type = named_type all k type;
           place = name_next x (register_names decls) r
-              ∙ ap (λ b. if b then Some 0 else option_map suc (position_of (register_names decls) r))
-              same;
+              ∙ ap (λ b. if b then Some 0
+              else option_map suc (position_of (register_names decls) r)) same;
           typed = refl;
           fixed = sym (ap (option_and_then (λ (seen : RegisterSeen). seen.type)) here) ∙ fixed;
           kept = λ is. kept_here (is_protected_kind kind)

@@ -108,8 +108,8 @@ RunsAreNotStuck =
     NeverStuckFrom spec n start events
     × AllByRecursion (IsState spec.decls) (run_of spec n start events).boundaries
 
--- so a run fails only in a body, at a `fail`, a `check`, a `load` or a `store`, and its place is the
--- tree of that statement
+-- so a run fails only in a body, at a `fail`, a `check`, a `load` or a `store`, and its place is
+-- the tree of that statement
 abbrev pub RunsFailInBodies : Type 0
 RunsFailInBodies =
     (spec : Spec) (n cycle : ℕ) (start : MachineState) (events : List Event) (place : Place) →

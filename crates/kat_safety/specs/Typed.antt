@@ -1,5 +1,5 @@
--- Values of what typing knows of their types: of expressions, of locals, and of what expressions read
--- where they stand.
+-- Values of what typing knows of their types: of expressions, of locals, and of what expressions
+-- read where they stand.
 use Rattle.std.specs.Prelude.{◌≡◌, IsTrue, List, Option, Some, None}
 use Rattle.std.specs.List.{AllZip}
 use Rattle.kat_value.specs.declared.types.Ty.{Ty}
@@ -41,9 +41,9 @@ abbrev pub AreKept : List DeclForm → List Value → Type 0
 AreKept decls kept =
     (state : MachineState) × IsState decls state × (kept ≡ kept_of decls state)
 
--- what expressions read is what typing takes where they stand: nothing in a statement, in a condition
--- of the dispatch a value for each register, kept values in the untrusted assertion and entries, and
--- in a `change` those before a block and behind it
+-- what expressions read is what typing takes where they stand: a value for each register in the
+-- dispatch, kept values in the untrusted assertion and entries, in a `change` those of both ends,
+-- and nothing elsewhere
 abbrev pub AreReadsOf : List DeclForm → Standing → Reads → Type 0
 AreReadsOf decls Plain Nothing = Unit {0}
 AreReadsOf decls InDispatch (Registers registers) =

@@ -1,6 +1,6 @@
 //! A typed machine is never stuck: an expression without faults of typing has a value of its type,
-//! a statement keeps types, and so do calls, cycles and runs, which fail only at statements that fail
-//! of themselves. A function here does nothing: its contract is the law.
+//! a statement keeps types, and so do calls, cycles and runs, which fail only at statements that
+//! fail of themselves. A function here does nothing: its contract is the law.
 #![tactic(auto)]
 
 mod laws;

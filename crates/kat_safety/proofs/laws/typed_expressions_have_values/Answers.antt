@@ -14,4 +14,5 @@ returns c = λ spec k at standing reads scope locals e machine formed clean are 
     }) spec.decls k standing reads
     (looks_alike c.values_show_types.ensures c.operations_are_exact.ensures spec.decls k
     (c.types_name_earlier_ones.ensures spec machine.typed))
-    (reads_alike c.types_of_values.ensures.numbers spec.decls k machine.typed standing reads are) scope locals among e at formed clean
+    (reads_alike c.types_of_values.ensures.numbers spec.decls k machine.typed standing reads are)
+    scope locals among e at formed clean
