@@ -92,7 +92,7 @@ counter trap user kernel step pre post =
     ∷ d.Code 0 (1 ∷ 2 ∷ [])
     ∷ d.Region (codes "own") [] (codes "i") upper
     ∷ d.Fun (codes "trap") [] type.Unit trap
-    ∷ d.Contract (codes "trap") [] pre (codes "res") post
+    ∷ d.Contract (codes "trap") [] pre (codes "r") post
     ∷ d.Fun (codes "user_step") [] type.Unit user
     ∷ d.Fun (codes "kernel_step") [] type.Unit kernel
     ∷ d.Fun (codes "step") [] type.Unit step
