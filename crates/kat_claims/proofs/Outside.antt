@@ -26,8 +26,8 @@ use Rattle.kat_syntax.specs.Phases.{IsCodeThere, phase_of}
 use Rattle.kat_syntax.specs.States.{KeptCell, KeptPlace, KeptRegister, cell_at, cell_width, kept_cells, kept_of, kept_places, kept_register, memory_of, register_position, register_value, value_at, value_of_place}
 use Rattle.kat_syntax.specs.Tables.{Name, RegisterDecl, register_names, registers_of}
 use Rattle.kat_syntax.specs.TypingExpressions.{is_of_kind, is_outside_kind, is_protected_kind}
-use Rattle.kat_claims.specs.Outside.{OutsideWritesKeep}
-use Rattle.kat_claims.proofs.OutsideCells.{IsOutsideAlone, alone_from, code_stays, every_there, lets_from, unprotected}
+use Rattle.kat_claims.specs.Outside.{IsCodeCell, OutsideWritesKeep}
+use Rattle.kat_claims.proofs.OutsideCells.{IsOutsideAlone, alone_from, code_cell_stays, code_stays, every_there, lets_from, unprotected}
 use Rattle.kat_claims.proofs.OutsidePhase.{same_phase}
 use Rattle.kat_claims.proofs.OutsideRegisters.{AreOthers, IsOutsideAt, means_first, outside_register, protected_differ}
 
@@ -268,6 +268,13 @@ module _ (spec : Spec) (typed : IsTyped spec) (s t : MachineState) where
       same_phase spec.decls t.registers s.registers (read_same target out changes) 0 spec.decls
       typed
 
+  code_cell_same :
+      (target : Target) → IsOutsideTarget spec.decls target → ChangesOnePlace target s t →
+      (j : ℕ) → IsCodeCell spec.decls j → cell_at t j ≡ cell_at s j
+  code_cell_same (OneCell index width) out changes j is =
+      code_cell_stays index t s (λ j other. changes.other_cells j other) spec.decls out j is
+  code_cell_same (OneRegister at width) out changes j is = changes.other_cells j refl
+
   code_same :
       (target : Target) → IsOutsideTarget spec.decls target → ChangesOnePlace target s t →
       (IsCodeThere spec.decls t → IsCodeThere spec.decls s)
@@ -290,6 +297,10 @@ outside_writes_keep change = record {
   kept = λ spec poke before after typed wrote.
       let one = change spec poke before after wrote in
       kept_same spec typed before after one.0 (target_found spec typed poke one.0 one.1) one.2;
+  code_cells = λ spec poke before after i typed wrote is.
+      let one = change spec poke before after wrote in
+      code_cell_same spec typed before after one.0 (target_found spec typed poke one.0 one.1) one.2
+      i is;
   code = λ spec poke before after typed wrote.
       let one = change spec poke before after wrote in
       code_same spec typed before after one.0 (target_found spec typed poke one.0 one.1) one.2;

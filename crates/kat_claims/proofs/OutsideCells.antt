@@ -1,5 +1,5 @@
 -- A cell that may be written from outside is of no other declaration of a typed specification.
-use Rattle.std.proofs.Common.{arith, ◌≡◌, ◌∙◌, ℕ, zero, suc, ◌+◌, ◌<◌, ◌≤◌, Bool, true, false, not, ◌&&◌, ◌||◌, List, [], ◌∷◌, ◌++◌, length, take, drop, slice_get, Option, Some, None, refl, sym, ap, subst, add-one}
+use Rattle.std.proofs.Common.{arith, ◌≡◌, ◌∙◌, ℕ, zero, suc, ◌+◌, ◌<◌, ◌≤◌, Bool, true, false, not, ◌&&◌, ◌||◌, List, [], ◌∷◌, ◌++◌, length, take, drop, slice_get, Option, Some, None, inl, inr, refl, sym, ap, subst, add-one}
 use Rattle.std.specs.Prelude.{◌==◌, nat_le, nat_lt}
 use Rattle.std.specs.List.{AllByRecursion, cons_option, list_any}
 use Rattle.std.proofs.lemmas.Bool.{or_parts, false≢true}
@@ -20,6 +20,7 @@ use Rattle.kat_syntax.specs.States.{cell_at}
 use Rattle.kat_syntax.specs.TypeRules.{unless}
 use Rattle.kat_syntax.specs.TypingDeclarations.{are_cell_values, inner_faults, range_faults}
 use Rattle.kat_syntax.specs.TypingStatements.{without_memory}
+use Rattle.kat_claims.specs.Outside.{IsCodeCell}
 use Rattle.kat_claims.proofs.Faultless.{AreClean, inner_clean, met, no_first, no_second}
 
 -- tests that are met or not
@@ -257,22 +258,37 @@ module _ (i : ℕ) where
           (λ j first last. others j (omega (arith, first)) (omega (arith, last))) are.1,
     )
 
-    -- the code cells stay where this cell is outside alone
+    -- a cell that is not this one stays
+    other_than_code :
+        (lo : ℕ) (values : List ℕ) → (has i (d.Code lo values) ≡ true → false ≡ true) →
+        (j : ℕ) → lo ≤ j → j < lo + length values → (b : Bool) → (i == j) ≡ b → not b ≡ true
+    other_than_code lo values alone j first last true is =
+        let out = never_met (has i (d.Code lo values)) alone in absurd (grind (arith, nat_tests))
+    other_than_code lo values alone j first last false is = refl
+
+    -- each code cell stays where this cell is outside alone
+    pub code_cell_stays :
+        (decls : List DeclForm) → IsOutsideAlone i decls →
+        (j : ℕ) → IsCodeCell decls j → cell_at s j ≡ cell_at t j
+    code_cell_stays [] alone j is = absurd is
+    code_cell_stays (d.Code lo values ∷ decls) alone j (inl (first, last)) =
+        same j (other_than_code lo values alone.0 j first last (i == j) refl)
+    code_cell_stays (d.Code lo values ∷ decls) alone j (inr more) =
+        code_cell_stays decls alone.1 j more
+    code_cell_stays (_ ∷ decls) alone j is = code_cell_stays decls alone.1 j is
+
+    -- so every code cell has its stated value
     pub code_stays :
         (decls : List DeclForm) →
         IsOutsideAlone i decls →
         IsCodeThere decls t → IsCodeThere decls s
     code_stays [] alone there = tt
     code_stays (d.Code lo values ∷ decls) alone there = (
-      stated lo values (λ j first last. same j (other j first last (i == j) refl)) there.0,
+      stated lo values
+          (λ j first last. same j (other_than_code lo values alone.0 j first last (i == j) refl))
+          there.0,
       code_stays decls alone.1 there.1,
     )
-      where
-        other : (j : ℕ) → lo ≤ j → j < lo + length values → (b : Bool) → (i == j) ≡ b → not b ≡ true
-        other j first last true is =
-            let out = never_met (has i (d.Code lo values)) alone.0 in
-            absurd (grind (arith, nat_tests))
-        other j first last false is = refl
     code_stays (_ ∷ decls) alone there = code_stays decls alone.1 there
 
 -- the code cells of a state with the same cells

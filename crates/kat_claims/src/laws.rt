@@ -36,8 +36,7 @@ pub fn only_names_read_count()
 {}
 
 /// What is written from outside is no part of what security speaks of: in a typed specification
-/// such a write changes neither the phase nor the kept values, and no code cell gets or loses its
-/// stated value.
+/// such a write changes neither the phase nor the kept values nor any code cell.
 pub fn outside_writes_keep()
     ensures { OutsideWritesKeep }
 {
