@@ -7,3 +7,17 @@ mod Settings
 mod Places
 mod Reading
 mod Printed
+mod WordsBack
+mod PlainWords
+mod NamesBack
+mod ValuesBack
+mod RegistersBack
+mod CellBytes
+mod CellsBack
+mod PrintedPlaces
+mod PrintedSteps
+mod PrintedLines
+mod PrintedText
+mod PrintedRegisters
+mod PrintedRuns
+mod PrintedImage

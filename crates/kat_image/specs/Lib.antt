@@ -4,4 +4,5 @@ pub mod Lines
 pub mod Image
 pub mod ImageError
 pub mod ImageText
+pub mod ReadsBack
 pub mod Reader

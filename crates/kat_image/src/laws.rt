@@ -7,6 +7,7 @@ ghost use Rattle.kat_syntax.specs.Machine.{MachineState};
 ghost use Rattle.kat_syntax.specs.Start.{start_of};
 ghost use Rattle.kat_image.specs.Image.{IsImageOf, IsFirstRefused, Lacks, lines_of};
 ghost use Rattle.kat_image.specs.Lines.{LinesSetPlaces};
+ghost use Rattle.kat_image.specs.ReadsBack.{HasImageNames, StatesComeBack};
 
 /// Bytes are an image of at most one state of a specification.
 pub fn one_state()
@@ -38,4 +39,10 @@ pub fn lines_set_places()
 pub fn lines_are_the_text()
     ensures joined { (bytes : List ℕ) → join_with_byte 10 (lines_of bytes) ≡ bytes }
     ensures whole { (bytes : List ℕ) → All (Lacks 10) (lines_of bytes) }
+{}
+
+/// The printed text of each state of a specification is an image of that state, where the names of
+/// its registers and types are words and tell them apart.
+pub fn printed_states_come_back()
+    ensures { (spec : Spec) → HasImageNames spec → StatesComeBack spec }
 {}

@@ -18,6 +18,7 @@ pub use fault::ImageError;
 pub use image::read_image;
 pub use laws::{
     lines_are_the_text, lines_set_places, no_lines_are_the_start, one_refusal, one_state,
+    printed_states_come_back,
 };
 pub use print::print_image;
 pub use setting::Setting;

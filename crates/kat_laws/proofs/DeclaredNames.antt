@@ -33,7 +33,7 @@ use Rattle.kat_laws.proofs.Clean.{empty_first, empty_second, inner_clean, met, n
 use Rattle.kat_laws.proofs.NameWords.{TokensByParts, IsSpelled, spelled_parts, spelled_word}
 
 -- one declared name stands at one declaration, and at one tree
-one_place : (o : Option Declared) (k m tree other : ℕ) → stands_at k tree o ≡ true →
+pub one_place : (o : Option Declared) (k m tree other : ℕ) → stands_at k tree o ≡ true →
     stands_at m other o ≡ true → (k ≡ m) × (tree ≡ other)
 one_place None k m tree other a b = absurd (cc)
 one_place (Some one) k m tree other a b =
@@ -223,7 +223,7 @@ differ_from all k (d.Register x type kind ∷ decls) clean =
 differ_from all k (_ ∷ decls) clean = differ_from all (k + 1) decls clean.1
 
 -- the bounds of a memory that is not too wide are below 2 ^ 64
-bounds_small : (width lo hi : ℕ) → is_width width ≡ true → has_bounds width lo hi ≡ true →
+pub bounds_small : (width lo hi : ℕ) → is_width width ≡ true → has_bounds width lo hi ≡ true →
     lo + (hi - lo) ≤ 2 ^ 64
 bounds_small width lo hi wide bounds =
     let parts = and_parts (nat_lt lo hi) (nat_le hi (2 ^ width) && nat_le (hi - lo) most_cells)

@@ -1,6 +1,9 @@
 pub mod Clean
 pub mod NameWords
 pub mod DeclaredNames
+pub mod NamePlaces
+pub mod TypePlaces
+pub mod ImageNames
 pub mod TypedRegisters
 pub mod KindsOfTypes
 pub mod FirstValues

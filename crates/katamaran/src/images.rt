@@ -1,6 +1,6 @@
 //! Images: lines that are of the format and lines that are not, each as a whole image.
 
-use crate::tests::{image_agrees, image_status};
+use crate::tests::{image_agrees, image_status, run_agrees};
 use kat_top::Status;
 use std::alloc::{AllocError, Global};
 use std::test::Fail;
@@ -127,6 +127,49 @@ const REFUSED: &[(&str, &str)] = &[
     ("reg n 1\n \n", "image 2\n"),
 ];
 
+/// Machines with four cells of one bit, of a byte and of 64 bits.
+const ONE_BIT: &str = "(spec 1 (memory 8 1 0 4) (fun f () unit (ret unit)) (step f) \
+    (dispatch (else (block k))) (untrusted (star)) \
+    (block k (entry (star)) (within 1) (change true)) (boot k))";
+
+const ONE_BYTE: &str = "(spec 1 (memory 8 8 0 4) (fun f () unit (ret unit)) (step f) \
+    (dispatch (else (block k))) (untrusted (star)) \
+    (block k (entry (star)) (within 1) (change true)) (boot k))";
+
+const EIGHT_BYTES: &str = "(spec 1 (memory 8 64 0 4) (fun f () unit (ret unit)) (step f) \
+    (dispatch (else (block k))) (untrusted (star)) \
+    (block k (entry (star)) (within 1) (change true)) (boot k))";
+
+/// Machines and images, with what a run of no cycles shows of them.
+const CELLS: &[(&str, &str, Status, &str)] = &[
+    (
+        ONE_BIT,
+        "cells 0 0100\ncells 3 01",
+        Status::Ok,
+        "at 0\ncell 0 0x1\ncell 3 0x1\nended 0\n",
+    ),
+    (ONE_BIT, "cells 0 0102", Status::Form, "image 1\n"),
+    (
+        ONE_BYTE,
+        "cells 1 ff00fe",
+        Status::Ok,
+        "at 0\ncell 1 0xff\ncell 3 0xfe\nended 0\n",
+    ),
+    (ONE_BYTE, "cells 1 ff00fe01", Status::Form, "image 1\n"),
+    (
+        EIGHT_BYTES,
+        "cells 2 0123456789abcdefffffffffffffffff",
+        Status::Ok,
+        "at 0\ncell 2 0x0123456789abcdef\ncell 3 0xffffffffffffffff\nended 0\n",
+    ),
+    (
+        EIGHT_BYTES,
+        "cells 0 0123456789abcd",
+        Status::Form,
+        "image 1\n",
+    ),
+];
+
 /// Whether each of these is an image of the machine.
 fn all_taken(alloc: Global) -> Result<bool, AllocError> {
     for image in TAKEN {
@@ -151,5 +194,15 @@ fn all_refused(alloc: Global) -> Result<bool, AllocError> {
 fn images_and_other_texts(rt: HostRuntime) -> Result<(), Fail> {
     assert!(rt; all_taken(rt.alloc())?);
     assert!(rt; all_refused(rt.alloc())?);
+    Ok(())
+}
+
+#[test]
+fn cells_of_every_width(rt: HostRuntime) -> Result<(), Fail> {
+    for (spec, image, status, text) in CELLS {
+        let words = "run s i --cycles 0 --calls 1";
+        let agrees = run_agrees(rt.alloc(), words, spec, image, *status, text)?;
+        assert!(rt; agrees, "at {image} of {spec}");
+    }
     Ok(())
 }
