@@ -3,6 +3,7 @@ pub mod AddSteps
 pub mod Below
 pub mod Carries
 pub mod FrameSteps
+pub mod Growing
 pub mod LeftTyped
 pub mod Lists
 pub mod NormLimits

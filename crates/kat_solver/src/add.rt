@@ -2,14 +2,14 @@
 
 ghost use Rattle.std.specs.Prelude.{◌≡◌, ◌++◌, [], ◌∷◌, Some, IfOk};
 ghost use Rattle.kat_known.specs.Normal.{norm_in};
-ghost use Rattle.kat_solver.specs.Add.{max_members, stage_of, added, added_from, appended, atom_known, known_literal, literal_taken, normed_taken, or_taken, settled_of, taken};
+ghost use Rattle.kat_solver.specs.Add.{max_members, stage_of, added, added_from, appended, atom_known, known_literal, literal_taken, normed_taken, or_taken, all_added, taken};
 ghost use Rattle.kat_solver.specs.declared.settled.Settled.TheVariants.{Open};
 
 use crate::agenda::{Agenda, with_last};
 use crate::moving::{moving, staying};
 use crate::normed::normed_under;
 use crate::pairs::pair_of;
-use crate::settled::{Settled, unsettled};
+use crate::settled::Settled;
 use kat_known::{contains, is_atom, known, reduced};
 use kat_norm::{Pair, Substitution};
 use kat_term::{Term, Terms, World, arg_of, args_of, copy_term, same_term, truth_in};
@@ -20,13 +20,19 @@ use std::alloc::{AllocError, Global};
 /// The most members that are taken from the agenda of one formula.
 const MAX_MEMBERS: u32 = 100_000;
 
-/// The formulas of a world, settled: they are added in the order in which they were assumed.
-pub fn settle(alloc: Global, world: &World) -> Result<Settled, AllocError>
+/// A settled world of the variables of a world with formulas added, in their order. Those that are
+/// added to an unsettled one are settled.
+pub fn all_added(
+    alloc: Global,
+    world: &World,
+    settled: Settled,
+    formulas: &[Term],
+) -> Result<Settled, AllocError>
     ensures { IfOk result
-        (λ s. s ≡ settled_of world.now.vars (norm_in world.now.vars) world.now.formulas) }
+        (λ s. s ≡ all_added world.now.vars (norm_in world.now.vars) settled formulas.now) }
 {
-    let mut settled = unsettled(alloc);
-    for formula in world.formulas() {
+    let mut settled = settled;
+    for formula in formulas {
         settled = added(alloc, world, settled, copy_term(alloc, formula)?)?;
     }
     Ok(settled)

@@ -8,9 +8,11 @@ use crate::left::left_in;
 use crate::normed::rewrite_in;
 use kat_term::{Answer, NormError, Prover, Term, World};
 use std::alloc::{AllocError, Global};
+use std::mem::replace;
 
 /// A prover by rules alone. It settles the formulas of a world, and asks of what is settled again
-/// where the next question is asked in an equal world.
+/// where the next question is asked in an equal world. Where the next world begins with the same
+/// formulas, settling goes on from them.
 #[derive(Drop)]
 pub struct RuleProver {
     alloc: Global,
@@ -32,15 +34,13 @@ impl RuleProver {
         }
     }
 
-    /// Settles the formulas of a world, unless they are settled.
+    /// Settles the formulas of a world that are not settled. On want of memory none are.
     fn keep(&mut self, world: &World) -> Result<(), AllocError>
         ensures { OnOk result (self.new.kept.settled
             ≡ settled_of world.now.vars (norm_in world.now.vars) world.now.formulas) }
     {
-        if self.kept.is_of(world) {
-            return Ok(());
-        }
-        self.kept = Kept::of(self.alloc, world)?;
+        let kept = replace(&mut self.kept, Kept::new(self.alloc));
+        self.kept = kept.next(self.alloc, world)?;
         Ok(())
     }
 }

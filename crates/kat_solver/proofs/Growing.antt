@@ -1,0 +1,15 @@
+-- Settling goes on from formulas that are settled.
+use Rattle.std.proofs.Common.{◌≡◌, ◌∙◌, ◌++◌, List, [], ◌∷◌, Option, refl, sym, ap}
+use Rattle.kat_value.specs.declared.types.Ty.{Ty}
+use Rattle.kat_term.specs.declared.term.Term.{Term}
+use Rattle.kat_known.specs.Normal.{norm_in}
+use Rattle.kat_solver.specs.Add.{added, all_added, settled_of}
+use Rattle.kat_solver.specs.declared.settled.Settled.{Settled}
+
+module _ (vars : List Ty) (norm : Term → Option Term) where
+  -- formulas added are the first ones added, and then the others
+  pub added_behind : (settled : Settled) (first rest : List Term) →
+      all_added vars norm (all_added vars norm settled first) rest
+      ≡ all_added vars norm settled (first ++ rest)
+  added_behind settled [] rest = refl
+  added_behind settled (f ∷ fs) rest = added_behind (added vars norm settled f) fs rest
