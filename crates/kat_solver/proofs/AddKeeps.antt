@@ -27,7 +27,7 @@ use Rattle.kat_solver.specs.Add.{reduced_by, atom_known, known_by, known_literal
 use Rattle.kat_solver.specs.Pairs.{has_var, pair, pair_of_sides, pair_of_truth, pair_of}
 use Rattle.kat_solver.specs.Settled.{FitsSettled}
 use Rattle.kat_solver.specs.declared.settled.Settled.{Settled}
-use Rattle.kat_solver.proofs.Below.{Below}
+use Rattle.kat_solver.specs.Below.{Below}
 use Rattle.kat_solver.proofs.Carries.{Carrying, added_holds, settled_holds}
 use Rattle.kat_solver.proofs.Truths.{some_truth_told, var_value, negated_value, and_true, equation_sides}
 use Rattle.kat_solver.proofs.ViewLaws.{arg_there, with_one_there, with_two_there, either_there, so_there}

@@ -19,7 +19,7 @@ use Rattle.kat_solver.specs.Prove.{is_proved}
 use Rattle.kat_solver.specs.Settled.{pairs_of}
 use Rattle.kat_solver.specs.declared.settled.Settled.{Settled}
 use Rattle.kat_solver.specs.declared.settled.Settled.TheVariants.{Closed, Open}
-use Rattle.kat_solver.proofs.Below.{Below}
+use Rattle.kat_solver.specs.Below.{Below}
 use Rattle.kat_solver.proofs.Carries.{Carrying, HoldsIn, settled_holds}
 use Rattle.kat_solver.proofs.Types.{and_typed, pair_typed}
 

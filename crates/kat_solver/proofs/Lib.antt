@@ -1,6 +1,5 @@
 pub mod AddKeeps
 pub mod AddSteps
-pub mod Below
 pub mod Carries
 pub mod FrameSteps
 pub mod Growing

@@ -16,7 +16,7 @@ use Rattle.kat_solver.specs.Settled.{pairs_of, FitsSettled}
 use Rattle.kat_solver.specs.declared.settled.Settled.{Settled}
 use Rattle.kat_solver.specs.declared.settled.Settled.TheVariants.{Closed, Open}
 use Rattle.kat_solver.proofs.AddKeeps.{settled_fits}
-use Rattle.kat_solver.proofs.Below.{Below}
+use Rattle.kat_solver.specs.Below.{Below}
 use Rattle.kat_solver.proofs.LeftTyped.{IsTypedAnswer, left_typed, settled_pairs}
 use Rattle.kat_solver.proofs.NormLimits.{limits_named}
 use Rattle.kat_solver.proofs.ProveSound.{left_means}

@@ -30,7 +30,7 @@ use Rattle.kat_solver.specs.Settled.{FitsSettled}
 use Rattle.kat_solver.specs.declared.settled.Settled.{Settled}
 use Rattle.kat_solver.specs.declared.settled.Settled.TheVariants.{Closed, Open}
 use Rattle.kat_solver.proofs.AddKeeps.{keeps, atoms_keep, reduced_by_kept, normal_kept, added_fits, settled_fits}
-use Rattle.kat_solver.proofs.Below.{Below}
+use Rattle.kat_solver.specs.Below.{Below}
 use Rattle.kat_solver.proofs.Lists.{Each, each_before}
 use Rattle.kat_solver.proofs.Truths.{first_of_three, and_holds, or_holds, truth_holds}
 use Rattle.kat_solver.proofs.ViewLaws.{with_two_there, three_there, either_there}

@@ -21,7 +21,7 @@ use Rattle.kat_norm.specs.declared.substitution.Pair.{Pair}
 use Rattle.kat_norm.specs.Substitution.{IsPairOf}
 use Rattle.kat_known.specs.Views.{with_one}
 use Rattle.kat_solver.specs.Pairs.{has_var, pair, pair_of_sides, pair_of_truth, pair_of}
-use Rattle.kat_solver.proofs.Below.{Below}
+use Rattle.kat_solver.specs.Below.{Below}
 use Rattle.kat_solver.proofs.ViewLaws.{var_there, with_one_there, with_two_there, either_there, so_there}
 
 same_told : (t u : Ty) → same_type t u ≡ true → t ≡ u

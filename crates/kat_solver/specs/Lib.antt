@@ -1,4 +1,5 @@
 pub mod Add
+pub mod Below
 pub mod Frames
 pub mod Left
 pub mod Means

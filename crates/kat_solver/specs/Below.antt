@@ -1,4 +1,4 @@
--- The laws of the crates below that the laws of settled worlds stand on.
+-- The laws of the crates below.
 use Rattle.kat_value.specs.Equality.{TestsEquality}
 use Rattle.kat_value.specs.TypeLaws.{BoolIsTruths}
 use Rattle.kat_term.specs.Equality.{TestsOperations}
@@ -10,6 +10,7 @@ use Rattle.kat_norm.specs.Kept.{KeptBySubstitution, TypesAreKept, ValuesAreKept}
 use Rattle.kat_known.specs.First.{FoundHaveValues}
 use Rattle.kat_known.specs.Kept.{AtomsKeepTypes, AtomsKeepValues, KnownHolds, NormalKeepsTypes, NormalKeepsValues, ReducedKeepsTypes, ReducedKeepsValues, StrictlyKeepsValues}
 
+-- what the laws of settled worlds and of a prover stand on
 pub record Below : Type 0 where
   pub operations : TestsOperations
   pub equal : TestsEquality
