@@ -72,8 +72,8 @@ Passes (Choose options) P = AllByRecursion (PassesBy P) options
 Passes (Owed world residue) P = Unit {0}
 Passes (Limit kind) P = Unit {0}
 
--- a walk that a step leads to from another: all its terms have types, and its jobs use no lemma that
--- those of the other do not use
+-- a walk that a step leads to from another: all its terms have types, and its jobs use no lemma
+-- that those of the other do not use
 pub record IsNext (decls : List DeclForm) (mode : Mode) (w next : Walk) : Type 0 where
   pub typed : IsWalkOf decls next
   pub lemmas :

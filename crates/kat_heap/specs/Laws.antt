@@ -1,8 +1,8 @@
 -- The laws of moves. Each has a forward form: a move from a walk that stands for what is owned
--- comes to a walk that stands for what is then owned, from whose jobs those before follow. Such
--- forms are stated of production, consumption and the outside writes alone: of opening and closing a
--- predicate, and of taking and putting a chunk by itself, none is. The backward rule is one for all
--- of them. `JobsAreMetBackwards` is proved; the others are statements, to come.
+-- comes to a walk that stands for what is then owned, from whose jobs those before follow. It is
+-- stated of production, consumption and the outside writes alone: of opening and of closing a
+-- predicate, and of taking and of putting one chunk, it is not. The backward rule is one for all of
+-- them. `JobsAreMetBackwards` is proved; the others are statements, to come.
 use Rattle.std.specs.Prelude.{◌≡◌, ◌≤◌, ◌++◌, ℕ, Option, None, Some, slice_get}
 use Rattle.std.specs.List.{AllByRecursion}
 use Rattle.kat_ast.specs.Spec.{Spec}
