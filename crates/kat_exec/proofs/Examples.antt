@@ -29,6 +29,7 @@ use Rattle.kat_heap.specs.Limits.{max_steps}
 use Rattle.kat_heap.specs.Terms.{Sources, expr_term, term_of_expr}
 use Rattle.kat_exec.specs.Examples.{CallsComeOut, ChoicesComeOut, ExamplesComeOut, ItemsComeOut, LimitsComeOut, PathsComeOut, PhasesComeOut, PredicatesComeOut, RegistersComeOut, SearchesComeOut}
 use Rattle.kat_exec.specs.Limits.{max_depth_of_calls}
+use Rattle.kat_exec.proofs.Used.{lemmas, names, registers_read}
 
 -- one layer of an expression
 expr_layer :
@@ -148,4 +149,7 @@ module _ (parts : TermsByParts) where
     paths = paths;
     phases = phases;
     items = items;
+    lemmas = lemmas;
+    registers_read = registers_read;
+    names = names;
   }

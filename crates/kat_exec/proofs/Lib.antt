@@ -1,2 +1,3 @@
+mod Used
 mod Examples
 mod Paths

@@ -2,6 +2,7 @@
 use Rattle.std.specs.Prelude.{◌≡◌, true, false, ℕ, List, [], ◌∷◌, length, Some, Ok}
 use Rattle.kat_value.specs.declared.op.Op.TheVariants.{And, Eq, Not, Or, Ule}
 use Rattle.kat_value.specs.declared.types.Ty.TheVariants as ty
+use Rattle.kat_value.specs.declared.value.Value.{Value}
 use Rattle.kat_ast.specs.declared.assertion.Assertion.{Assertion}
 use Rattle.kat_ast.specs.declared.assertion.Assertion.TheOpen as assertion
 use Rattle.kat_ast.specs.declared.assertion.Assertion.TheViews.{roll-Assertion}
@@ -16,7 +17,9 @@ use Rattle.kat_ast.specs.declared.stm.Stm.{Stm}
 use Rattle.kat_ast.specs.declared.stm.Stm.TheOpen as stm
 use Rattle.kat_ast.specs.declared.stm.Stm.TheViews.{roll-Stm}
 use Rattle.kat_ast.specs.declared.type_name.TypeName.TheVariants as type
+use Rattle.kat_syntax.specs.Fragments.{one_register}
 use Rattle.kat_syntax.specs.Tables.{Name}
+use Rattle.kat_claims.specs.Names.{names_of_assertion}
 use Rattle.kat_term.specs.Provers.{Left}
 use Rattle.kat_term.specs.Views.{bits, one, truth, two, unit}
 use Rattle.kat_term.specs.Worlds.{World, with_formula}
@@ -28,8 +31,10 @@ use Rattle.kat_chunk.specs.declared.chunk.Chunk.{Chunk}
 use Rattle.kat_chunk.specs.declared.chunk.Chunk.TheVariants as chunk
 use Rattle.kat_heap.specs.declared.mode.Mode.TheVariants.{ByContract, Inline}
 use Rattle.kat_heap.specs.Asking.{Answers}
-use Rattle.kat_heap.specs.Walks.{Bind, Bound, Consume, Fresh, Havoc, Match, Produce, Return, Run, Yield, OfCall, OfContract, OfScope, Plain, Job, Names, Choose, Limit, On, Owed, Goes, Pruned, Walk, Closed, Decide, OnlyIn}
+use Rattle.kat_heap.specs.Met.{Carries, HasRegisters, registers_of_expr}
+use Rattle.kat_heap.specs.Walks.{Bind, Bound, Consume, Fresh, Havoc, Match, Owe, Produce, Return, Run, Yield, OfCall, OfContract, OfScope, Plain, Job, Names, Choose, Limit, On, Owed, Goes, Pruned, Walk, Closed, Decide, OnlyIn}
 use Rattle.kat_exec.specs.Items.{OfFunction, start_of}
+use Rattle.kat_exec.specs.Lemmas.{JobsUse}
 use Rattle.kat_exec.specs.Outcome.{Asks, Ends, NoOption, Owes, outcome_in}
 use Rattle.kat_exec.specs.Steps.{step}
 
@@ -387,6 +392,52 @@ pub record ItemsComeOut : Type 0 where
       ∷ Return OfScope ((b, Var 1) ∷ (a, Var 0) ∷ []) ∷ Bind o ∷ Consume Plain postcondition
       ∷ []) 0)
 
+-- `(lemma l)`, and `(seq (ret x) (lemma l))`
+abbrev pub says : Stm
+says = roll-Stm (stm.Lemma l [])
+
+abbrev pub then_says : Stm
+then_says = roll-Stm (stm.Seq (gives x ∷ says ∷ []))
+
+-- a function without a contract whose body is `(lemma l)`, and a call of it
+abbrev pub sayer : List DeclForm
+sayer = d.Fun g [] type.Unit says ∷ []
+
+abbrev pub asks_it : Stm
+asks_it = roll-Stm (stm.Call g [])
+
+-- lemmas that are used: by a proof statement, by one that stands in a statement, and none beside
+-- it; by the body of a function, but not where it has a contract; and none in place
+pub record LemmasComeOut : Type 0 where
+  pub said : JobsUse machine l ByContract (Owe unit ∷ Run says ∷ [])
+  pub in_part : JobsUse machine l ByContract (Owe unit ∷ Run then_says ∷ [])
+  pub no_other :
+      (m : Name) → JobsUse machine m ByContract (Owe unit ∷ Run then_says ∷ []) → m ≡ l
+  pub in_body : JobsUse sayer l ByContract (Owe unit ∷ Run asks_it ∷ [])
+  pub by_contract :
+      (m : Name) →
+      JobsUse (d.Contract g [] anything o anything ∷ sayer) m ByContract
+      (Owe unit ∷ Run asks_it ∷ []) → ⊥
+  pub in_place : (m : Name) → JobsUse sayer m Inline (Owe unit ∷ Run asks_it ∷ []) → ⊥
+
+-- the registers that a condition of the dispatch reads: a fragment has them, and another has not
+pub record RegistersAreRead : Type 0 where
+  pub are_read : registers_of_expr at_zero ≡ r ∷ []
+  pub are_there : (v : Value) → HasRegisters machine (one_register 0 v) at_zero
+  pub are_not_there : (v : Value) → HasRegisters machine (one_register 1 v) at_zero → ⊥
+
+-- `(reg r x)`, which may bind x and no other name
+abbrev pub of_register : Assertion
+of_register = roll-Assertion (assertion.Register r (the x))
+
+pub record NamesComeOut : Type 0 where
+  pub bound :
+      (v w : Value) →
+      Carries ((y, w) ∷ []) ((x, v) ∷ (y, w) ∷ []) (names_of_assertion of_register)
+  pub not_bound :
+      (v w : Value) →
+      Carries ((y, w) ∷ []) ((a, v) ∷ (y, w) ∷ []) (names_of_assertion of_register) → ⊥
+
 -- what small walks and paths come to
 pub record ExamplesComeOut : Type 0 where
   pub registers : RegistersComeOut
@@ -398,3 +449,6 @@ pub record ExamplesComeOut : Type 0 where
   pub paths : PathsComeOut
   pub phases : PhasesComeOut
   pub items : ItemsComeOut
+  pub lemmas : LemmasComeOut
+  pub registers_read : RegistersAreRead
+  pub names : NamesComeOut

@@ -11,13 +11,15 @@ use Rattle.kat_syntax.specs.Meets.{ContractOf, LemmaHolds, LemmaOf, MeetsContrac
 use Rattle.kat_syntax.specs.Tables.{Function, Name, function_from}
 use Rattle.kat_term.specs.Values.{Valuation}
 use Rattle.kat_term.specs.declared.kind.Kind.{Kind}
+use Rattle.kat_term.specs.declared.term.Term.{Term}
 use Rattle.kat_heap.specs.declared.mode.Mode.{Mode}
 use Rattle.kat_heap.specs.Asking.{Answers}
 use Rattle.kat_heap.specs.Laws.{AreSound, IsMetUnder, Leads}
 use Rattle.kat_heap.specs.Met.{MetAt}
 use Rattle.kat_heap.specs.Stands.{StandsFor, point_at}
 use Rattle.kat_heap.specs.Typed.{IsWalkOf}
-use Rattle.kat_heap.specs.Walks.{Moved, Choose, Closed, Ended, Limit, On, Owed, Taken, Goes, Past, Pruned, Shut, Walk}
+use Rattle.kat_heap.specs.Walks.{Job, Moved, Choose, Closed, Ended, Limit, On, Owed, Taken, Goes, Past, Pruned, Shut, Walk}
+use Rattle.kat_exec.specs.Lemmas.{JobsUse}
 use Rattle.kat_exec.specs.Statements.{ContractDecl, LemmaDecl, contract_of, lemma_of}
 use Rattle.kat_exec.specs.Steps.{step}
 
@@ -48,11 +50,11 @@ abbrev pub claim_of : LemmaDecl → LemmaOf
 claim_of lemma =
     record { params = lemma.params; names = lemma.names; pre = lemma.pre; post = lemma.post }
 
--- every lemma holds
-abbrev pub LemmasHold : Spec → Type 0
-LemmasHold spec =
-    (l : Name) (lemma : LemmaDecl) → lemma_of spec.decls l ≡ Some lemma →
-    LemmaHolds spec (claim_of lemma)
+-- each lemma that jobs use in a mode holds
+abbrev pub LemmasHold : Spec → Mode → List (Job Term) → Type 0
+LemmasHold spec mode jobs =
+    (l : Name) (lemma : LemmaDecl) → JobsUse spec.decls l mode jobs →
+    lemma_of spec.decls l ≡ Some lemma → LemmaHolds spec (claim_of lemma)
 
 -- the walk that an option leads to, if any, is so
 abbrev pub PassesBy : (Walk → Type 0) → Taken → Type 0
@@ -70,12 +72,20 @@ Passes (Choose options) P = AllByRecursion (PassesBy P) options
 Passes (Owed world residue) P = Unit {0}
 Passes (Limit kind) P = Unit {0}
 
--- a step of a typed specification keeps that all terms of a walk have types
+-- a walk that a step leads to from another: all its terms have types, and its jobs use no lemma
+-- that those of the other do not use
+pub record IsNext (decls : List DeclForm) (mode : Mode) (w next : Walk) : Type 0 where
+  pub typed : IsWalkOf decls next
+  pub lemmas :
+      (l : Name) → JobsUse decls l mode next.point.jobs → JobsUse decls l mode w.point.jobs
+
+-- a step of a typed specification keeps that all terms of a walk have types, and uses no further
+-- lemma
 abbrev pub WalksStay : Type 0
 WalksStay =
     (answers : Answers) → AreSound answers → (spec : Spec) → IsTyped spec →
     (mode : Mode) (w : Walk) →
-    IsWalkOf spec.decls w → Passes (step answers spec.decls mode w) (IsWalkOf spec.decls)
+    IsWalkOf spec.decls w → Passes (step answers spec.decls mode w) (IsNext spec.decls mode w)
 
 -- one step, of a typed specification: where the jobs of each walk that it leads to are met, those
 -- before are met
@@ -83,7 +93,7 @@ abbrev pub StepsAreMet : Type 0
 StepsAreMet =
     (answers : Answers) → AreSound answers → (spec : Spec) → IsTyped spec →
     (mode : Mode) (w : Walk) (ρ : Valuation) (p : Fragment) (n : ℕ) →
-    ContractsMetBelow spec n → LemmasHold spec → IsWalkOf spec.decls w →
+    ContractsMetBelow spec n → LemmasHold spec mode w.point.jobs → IsWalkOf spec.decls w →
     StandsFor spec.decls w ρ p →
     Leads (step answers spec.decls mode w) (IsMetUnder spec n ρ) →
     MetAt spec (point_at spec.decls ρ w.point) p n
@@ -107,5 +117,5 @@ PathsAreMet =
     StepsAreMet → WalksStay → (answers : Answers) → AreSound answers → (spec : Spec) →
     IsTyped spec → (mode : Mode) (w : Walk) → AllEnd answers spec.decls mode w →
     (ρ : Valuation) (p : Fragment) (n : ℕ) →
-    ContractsMetBelow spec n → LemmasHold spec → IsWalkOf spec.decls w →
+    ContractsMetBelow spec n → LemmasHold spec mode w.point.jobs → IsWalkOf spec.decls w →
     StandsFor spec.decls w ρ p → MetAt spec (point_at spec.decls ρ w.point) p n

@@ -4,5 +4,6 @@ pub mod Steps
 pub mod Items
 pub mod Outcome
 pub mod Verdict
+pub mod Lemmas
 pub mod Examples
 pub mod Laws

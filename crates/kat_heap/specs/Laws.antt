@@ -1,7 +1,8 @@
 -- The laws of moves. Each has a forward form: a move from a walk that stands for what is owned
--- comes to a walk that stands for what is then owned, from whose jobs those before follow. The
--- backward rule is one for all of them. `JobsAreMetBackwards` is proved; the others are statements,
--- to come.
+-- comes to a walk that stands for what is then owned, from whose jobs those before follow. It is
+-- stated of production, consumption and the outside writes alone: of opening and of closing a
+-- predicate, and of taking and of putting one chunk, it is not. The backward rule is one for all of
+-- them. `JobsAreMetBackwards` is proved; the others are statements, to come.
 use Rattle.std.specs.Prelude.{◌≡◌, ◌≤◌, ◌++◌, ℕ, Option, None, Some, slice_get}
 use Rattle.std.specs.List.{AllByRecursion}
 use Rattle.kat_ast.specs.Spec.{Spec}
@@ -19,7 +20,7 @@ use Rattle.kat_heap.specs.Havoc.{havoc}
 use Rattle.kat_heap.specs.Met.{IsWrittenOver, Met, MetAt, MetConsume, read_in}
 use Rattle.kat_heap.specs.Producing.{produce}
 use Rattle.kat_heap.specs.Stands.{StandsFor, map_reading, point_at, value_at}
-use Rattle.kat_heap.specs.Typed.{IsWalkOf}
+use Rattle.kat_heap.specs.Typed.{IsReadingOf, IsWalkOf}
 use Rattle.kat_heap.specs.Walks.{Moved, Choose, Closed, Ended, Limit, On, Owed, Point, Reading, Taken, Goes, Past, Pruned, Shut, Walk}
 
 -- a prover whose answers are sound
@@ -102,7 +103,8 @@ ProducesForward =
     (answers : Answers) → AreSound answers → (spec : Spec) → IsTyped spec →
     (mode : Mode) (reading : Reading Term) (assertion : Assertion) (w : Walk) (ρ : Valuation)
     (p f q : Fragment) (n : ℕ) →
-    IsWalkOf spec.decls w → StandsFor spec.decls w ρ p → Join q p f →
+    IsWalkOf spec.decls w → IsReadingOf spec.decls w.world.vars reading →
+    StandsFor spec.decls w ρ p → Join q p f →
     Holds assertion (read_in spec.decls (map_reading (value_at spec.decls ρ) reading)
     (point_at spec.decls ρ w.point).names) f →
     Comes (produce answers spec.decls mode reading assertion w)
@@ -116,7 +118,8 @@ ConsumesForward =
     (answers : Answers) → AreSound answers → (spec : Spec) → IsTyped spec →
     (reading : Reading Term) (assertion : Assertion) (w : Walk) (ρ : Valuation) (p : Fragment)
     (n : ℕ) →
-    IsWalkOf spec.decls w → StandsFor spec.decls w ρ p →
+    IsWalkOf spec.decls w → IsReadingOf spec.decls w.world.vars reading →
+    StandsFor spec.decls w ρ p →
     Comes (consume answers spec.decls reading assertion w)
     (Continues spec n ρ
     (MetConsume spec (map_reading (value_at spec.decls ρ) reading) assertion

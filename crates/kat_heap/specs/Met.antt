@@ -1,6 +1,6 @@
 -- When jobs are met, on concrete states: what a walk's jobs mean once its terms have values.
-use Rattle.std.specs.Prelude.{◌≡◌, ◌++◌, ℕ, zero, suc, Bool, true, false, List, [], ◌∷◌, is_some, map, zip, Option, None, Some, nat_le, nat_lt, ◌&&◌, slice_get}
-use Rattle.std.specs.List.{list_any}
+use Rattle.std.specs.Prelude.{◌≡◌, ◌++◌, ℕ, zero, suc, Bool, true, false, List, [], ◌∷◌, is_some, map, zip, IsSome, Option, None, Some, nat_le, nat_lt, ◌&&◌, slice_get, Contains}
+use Rattle.std.specs.List.{AllByRecursion, list_any}
 use Rattle.kat_value.specs.Making.{all_there}
 use Rattle.kat_value.specs.declared.value.Value.{Value}
 use Rattle.kat_value.specs.declared.value.Value.TheVariants.{Bool as Truth, Bits as Number}
@@ -13,12 +13,15 @@ use Rattle.kat_ast.specs.declared.decl.Phase.{Phase}
 use Rattle.kat_ast.specs.declared.decl.Phase.TheVariants as phase
 use Rattle.kat_ast.specs.declared.decl.When.{When}
 use Rattle.kat_ast.specs.declared.expr.Expr.{Expr}
+use Rattle.kat_ast.specs.declared.expr.Expr.TheOpen.{Expr-F, Register, Make, Rec, Apply, Get}
+use Rattle.kat_ast.specs.declared.expr.Expr.TheFolds.{fold-Expr}
 use Rattle.kat_ast.specs.declared.stm.Stm.{Stm}
 use Rattle.kat_ast.specs.declared.type_name.Param.{Param}
 use Rattle.kat_syntax.specs.Cycle.{eval_of}
 use Rattle.kat_syntax.specs.Evaluation.{BothEnds, Environment, KeptValues, Locals, Nothing, Reads, value_of_expr}
 use Rattle.kat_syntax.specs.Fragments.{Fragment, IsOfMemory, IsOfType, Join, one_cell, one_register, whole}
 use Rattle.kat_syntax.specs.Holds.{Holds, IfTrue, IsOfWritten, index_width, predicates_of}
+use Rattle.kat_syntax.specs.MeaningLaws.{joined}
 use Rattle.kat_syntax.specs.Meets.{AreArguments}
 use Rattle.kat_syntax.specs.Machine.{MachineState, Progress}
 use Rattle.kat_syntax.specs.Outcomes.{Outcome, Done, Out, Fail, Stuck}
@@ -29,6 +32,7 @@ use Rattle.kat_syntax.specs.Tables.{Function, Name, step_function_of}
 use Rattle.kat_syntax.specs.TypeTable.{types_of_decls}
 use Rattle.kat_syntax.specs.declared.places.OutsidePlace.{OutsidePlace}
 use Rattle.kat_syntax.specs.declared.places.OutsidePlace.TheVariants.{Register as OutsideRegister, Cells as OutsideCells}
+use Rattle.kat_claims.specs.Names.{names_of_assertion, names_of_expr}
 use Rattle.kat_chunk.specs.Chunks.{predicate_names}
 use Rattle.kat_heap.specs.Havoc.{is_outside_at}
 use Rattle.kat_heap.specs.Items.{CodeCell, DispatchOf, code_cells, dispatch_of, guard_of, registers_kept, same_phase}
@@ -45,9 +49,12 @@ After Out P = Unit {0}
 After (Fail site) P = ⊥
 After Stuck P = ⊥
 
--- the second gives each name that stands for a value in the first the same value
-pub record Carries (names more : Locals) : Type 0 where
+-- the second gives each name that stands for a value in the first the same value, and of the other
+-- names a value to some of these alone
+pub record Carries (names more : Locals) (bound : List Name) : Type 0 where
   pub at : (x : Name) (v : Value) → named names x ≡ Some v → named more x ≡ Some v
+  pub only :
+      (x : Name) (v : Value) → named names x ≡ None → named more x ≡ Some v → Contains bound x
 
 -- what an assertion or a change reads beside names
 abbrev pub reads_of : Reading Value → Reads
@@ -81,6 +88,28 @@ pub record IsWrittenOver (decls : List DeclForm) (p q : Fragment) : Type 0 where
   pub cells_fit : (i n : ℕ) → is_outside_cell decls i ≡ true → q.cells i ≡ Some n →
       IsOfMemory (memory_of decls) i n
 
+-- the registers that one layer of an expression reads
+abbrev pub expr_registers : Expr-F (List Name) → List Name
+expr_registers (Register r) = r ∷ []
+expr_registers (Make k payload) = payload
+expr_registers (Rec r fields) = joined fields
+expr_registers (Apply op args) = joined args
+expr_registers (Get r f part) = part
+expr_registers _ = []
+
+-- the registers that an expression reads
+abbrev pub registers_of_expr : Expr → List Name
+registers_of_expr = fold-Expr (List Name) expr_registers
+
+-- a fragment has the register of a name
+abbrev pub HasRegister : List DeclForm → Fragment → Name → Type 0
+HasRegister decls p r =
+    (at : ℕ) × (register_position decls r ≡ Some at) × IsSome (p.registers at)
+
+-- a fragment has each register that an expression reads
+abbrev pub HasRegisters : List DeclForm → Fragment → Expr → Type 0
+HasRegisters decls p e = AllByRecursion (HasRegister decls p) (registers_of_expr e)
+
 -- what a fragment of one kept place with a value is
 abbrev pub IsPlace : List DeclForm → KeptPlace → Value → Fragment → Type 0
 IsPlace decls (KeptRegister r) v f =
@@ -108,13 +137,14 @@ module _ (spec : Spec) where
   -- other part is owned from here on
   abbrev pub MetConsume : Reading Value → Assertion → Rest → Rest
   MetConsume reading assertion then_ names last p n =
-      (more : Locals) × (f : Fragment) × (q : Fragment) × Carries names more × Join p f q
+      (more : Locals) × (f : Fragment) × (q : Fragment)
+      × Carries names more (names_of_assertion assertion) × Join p f q
       × Holds assertion (read_in spec.decls reading more) f × then_ more last q n
 
   -- to match: the expression has the value, with the name that it binds
   abbrev pub MetMatch : Value → Reading Value → Expr → Rest → Rest
   MetMatch value reading e then_ names last p n =
-      (more : Locals) × Carries names more
+      (more : Locals) × Carries names more (names_of_expr e)
       × (value_of_expr (read_in spec.decls reading more) e ≡ Some value) × then_ more last p n
 
   -- to match values with expressions, one by one
@@ -167,11 +197,12 @@ module _ (spec : Spec) where
   MetRestores [] then_ = then_
   MetRestores (pair ∷ pairs) then_ = MetRestore pair.0 pair.1 (MetRestores pairs then_)
 
-  -- to find the phase: what is owned tells each condition up to the one that decides
+  -- to find the phase: what is owned has the registers that each condition reads, up to the one
+  -- that decides, and tells whether it is true
   abbrev pub MetDecide : List When → Phase → (Phase → Rest) → Rest
   MetDecide [] otherwise chosen names last p n = chosen otherwise names last p n
   MetDecide (case ∷ cases) otherwise chosen names last p n =
-      (b : Bool)
+      HasRegisters spec.decls p case.test × (b : Bool)
       × ((state : MachineState) (rest : Fragment) →
       IsState spec.decls state → Join (whole state) p rest →
       value_of_expr (in_dispatch spec.decls state) case.test ≡ Some (Truth b))

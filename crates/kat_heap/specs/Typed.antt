@@ -59,6 +59,11 @@ things_of_reading Plain = []
 things_of_reading (Kept kept) = kept
 things_of_reading (AtBothEnds before after) = before ++ after
 
+-- all terms of a reading have types
+abbrev pub IsReadingOf : List DeclForm → List Ty → Reading Term → Type 0
+IsReadingOf decls vars reading =
+    AllByRecursion (HasSomeType decls vars) (things_of_reading reading)
+
 -- what follows a phase
 abbrev pub things_of_chosen : {T : Type 0} → Chosen T → List T
 things_of_chosen (OnlyIn phase) = []
