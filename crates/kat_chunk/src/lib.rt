@@ -9,6 +9,8 @@ mod chunk;
 mod chunks;
 mod laws;
 mod limits;
+#[cfg(test)]
+mod tests;
 
 pub use chunk::{Chunk, copy_chunk};
 pub use chunks::{AddError, Chunks};
