@@ -89,7 +89,7 @@ impl<'a> PlacedNames<'a> {
     {
         let meaning = number_of(&mut self.meanings, one.meaning)?;
         match self.names.insert(name, Kept { at: one.at, meaning }) {
-            Ok(Some(first)) => Ok(Some(placed(self.meanings.as_slice(), &first))),
+            Ok(Some(first)) => Ok(Some(with_meaning(self.meanings.as_slice(), &first))),
             Ok(None) => Ok(None),
             Err(_) => Err(AllocError),
         }
@@ -100,7 +100,7 @@ impl<'a> PlacedNames<'a> {
         ensures { result ≡ found_in self.now name.now }
     {
         match self.names.get(name) {
-            Some(one) => Some(placed(self.meanings.as_slice(), one)),
+            Some(one) => Some(with_meaning(self.meanings.as_slice(), one)),
             None => None,
         }
     }
@@ -125,7 +125,7 @@ fn number_of(meanings: &mut Items<Meaning>, meaning: Meaning) -> Result<u32, All
 }
 
 /// What a kept name is, with its meaning among these.
-fn placed(meanings: &[Meaning], one: &Kept) -> Placed
+fn with_meaning(meanings: &[Meaning], one: &Kept) -> Placed
     requires { one.now.meaning < length meanings.now }
     ensures { result ≡ placed_by meanings.now one.now }
 {
