@@ -1,6 +1,7 @@
 pub mod Adding
 pub mod DeclaredForms
 pub mod Declaring
+pub mod KeptLaws
 pub mod Lookups
 pub mod Noting
 pub mod Once

@@ -7,9 +7,9 @@ use Rattle.std.specs.Str.{bytes_eq}
 use Rattle.std.proofs.lemmas.Slice.Eq.{bytes_eq-Decides}
 use Rattle.kat_syntax.specs.Tables.{Name}
 use Rattle.kat_tables.specs.declared.seen.Stand.{Stand}
-use Rattle.kat_tables.specs.declared.kinds.Placed.{Placed}
+use Rattle.kat_tables.specs.declared.placed.Placed.{Placed}
 use Rattle.kat_tables.specs.declared.kinds.Firsts.{Firsts}
-use Rattle.kat_tables.specs.declared.kinds.Meaning.{Meaning}
+use Rattle.kat_tables.specs.declared.placed.Meaning.{Meaning}
 use Rattle.kat_tables.specs.declared.kinds.Kinds.{Kinds}
 use Rattle.kat_tables.specs.Meanings.{Noted, Wanted, Getter, first_with, place_in, member_in, ctor_in, register_in, region_in, predicate_in, function_in, lemma_in, block_in, Finds, AreFirst, IsKinds}
 use Rattle.kat_tables.specs.Meanings.{found, found_in, firsts_of, firsts_both, joined, place_of, member_of, ctor_of, register_of, region_of, predicate_of, function_of, lemma_of, block_of}
@@ -117,7 +117,7 @@ tells_push get wanted takes all one kinds now finds tells =
 -- the tables of all kinds with one more noted name
 pub kinds_push : (all : List Noted) (one : Noted) (kinds now : Kinds) → IsWith kinds one now →
     ((x : Name) → place_of now x ≡ first_with place_in (all ++ one ∷ []) x) →
-    ((x : Name) → found_in now.names.entries x ≡ None → found_in now.again.entries x ≡ None) →
+    ((x : Name) → found_in now.names x ≡ None → found_in now.again.entries x ≡ None) →
     (now.again.entries ≡ [] → AreFirst (all ++ one ∷ []) (all ++ one ∷ [])) →
     IsKinds all kinds → IsKinds (all ++ one ∷ []) now
 kinds_push all one kinds now finds places among once is = record {

@@ -7,7 +7,7 @@ use Rattle.std.specs.Str.{bytes_eq}
 use Rattle.std.proofs.lemmas.Slice.Eq.{bytes_eq-Decides}
 use Rattle.kat_syntax.specs.Tables.{Name}
 use Rattle.kat_tables.specs.declared.seen.Stand.{Stand}
-use Rattle.kat_tables.specs.declared.kinds.Placed.{Placed}
+use Rattle.kat_tables.specs.declared.placed.Placed.{Placed}
 use Rattle.kat_tables.specs.declared.kinds.Firsts.{Firsts}
 use Rattle.kat_tables.specs.declared.kinds.Kinds.{Kinds}
 use Rattle.kat_tables.specs.Meanings.{Noted, Entries, firsts_of, firsts_both, joined, found, found_in, found_by, once_in, IsPut, first_with, place_in, place_of, AreFirst, IsKinds, member_of, ctor_of, register_of, region_of, predicate_of, function_of, lemma_of, block_of}
@@ -49,16 +49,16 @@ same_by false v w old same = refl
 
 -- a new name behind those that are noted
 pub put_new : (kinds now : Kinds) (one : Noted) →
-    IsPut kinds.names.entries one.name (placed one) now.names.entries →
+    IsPut kinds.names one.name (placed one) now.names →
     now.again.entries ≡ kinds.again.entries →
-    found_in kinds.names.entries one.name ≡ None → found_in kinds.again.entries one.name ≡ None →
+    found_in kinds.names one.name ≡ None → found_in kinds.again.entries one.name ≡ None →
     IsWith kinds one now
 put_new kinds now one put kept free none = λ x.
     let again = kinds.again.entries in
-    ap (λ es. option_or (found_in es x) (once_in now.names.entries x)) kept
+    ap (λ es. option_or (found_in es x) (once_in now.names x)) kept
     ∙ ap (λ o. option_or (found_in again x) (option_map firsts_of o)) (put x)
     ∙ new_by (bytes_eq x one.name) (found_in again x) (found_in again one.name)
-    (found_in kinds.names.entries x) (found_in kinds.names.entries one.name) (placed one)
+    (found_in kinds.names x) (found_in kinds.names one.name) (placed one)
     (λ e. ap (found_in again) ((bytes_eq-Decides x one.name).0 e)) none free
 
 -- a name that was there already is what it was first
@@ -73,19 +73,19 @@ same_names before mid now name one first put is back x =
 
 -- a name that was there already
 pub put_again : (kinds now : Kinds) (one : Noted) (first : Placed) →
-    ((x : Name) → found_in now.names.entries x ≡ found_in kinds.names.entries x) →
-    Some first ≡ found_in kinds.names.entries one.name →
+    ((x : Name) → found_in now.names x ≡ found_in kinds.names x) →
+    Some first ≡ found_in kinds.names one.name →
     IsPut kinds.again.entries one.name
     (firsts_both (unwrap_or (found_in kinds.again.entries one.name) (firsts_of first))
     (firsts_of (placed one))) now.again.entries → IsWith kinds one now
 put_again kinds now one first same is twice = λ x.
     let again = kinds.again.entries in
-    ap (λ o. option_or o (once_in now.names.entries x)) (twice x)
+    ap (λ o. option_or o (once_in now.names x)) (twice x)
     ∙ ap (λ o. option_or (if bytes_eq x one.name then
     Some (firsts_both (unwrap_or (found_in again one.name) (firsts_of first))
     (firsts_of (placed one))) else found_in again x) (option_map firsts_of o)) (same x)
     ∙ again_by (bytes_eq x one.name) (found_in again x) (found_in again one.name)
-    (found_in kinds.names.entries x) (found_in kinds.names.entries one.name) first (placed one) is
+    (found_in kinds.names x) (found_in kinds.names one.name) first (placed one) is
 
 -- a name that is put is there, and others are as they were
 not_put : {V : Type 0} (b : Bool) (v : V) (ex : Option V) → (if b then Some v else ex) ≡ None →
@@ -140,14 +140,14 @@ new_place false true ex e one found first same here free none is = absurd (cc)
 
 -- places behind a new name
 pub places_new : (all : List Noted) (one : Noted) (kinds now : Kinds) →
-    IsPut kinds.names.entries one.name (placed one) now.names.entries →
-    found_in kinds.names.entries one.name ≡ None →
+    IsPut kinds.names one.name (placed one) now.names →
+    found_in kinds.names one.name ≡ None →
     ((x : Name) → place_of kinds x ≡ first_with place_in all x) →
     (x : Name) → place_of now x ≡ first_with place_in (all ++ one ∷ []) x
 places_new all one kinds now put free are x =
     ap (option_map (λ (p : Placed). p.at)) (put x)
-    ∙ new_place (bytes_eq x one.name) (bytes_eq one.name x) (found_in kinds.names.entries x)
-    (found_in kinds.names.entries one.name) (placed one) (first_with place_in all x)
+    ∙ new_place (bytes_eq x one.name) (bytes_eq one.name x) (found_in kinds.names x)
+    (found_in kinds.names one.name) (placed one) (first_with place_in all x)
     (first_with place_in all one.name) (same_turned x one.name)
     (λ e. ap (first_with place_in all) ((bytes_eq-Decides x one.name).0 e)) free (are one.name)
     (are x)
@@ -162,8 +162,8 @@ same_place false v w first there = sym (or_none first)
 
 -- places behind a name that was there already
 pub places_again : (all : List Noted) (one : Noted) (first : Placed) (kinds now : Kinds) →
-    ((x : Name) → found_in now.names.entries x ≡ found_in kinds.names.entries x) →
-    Some first ≡ found_in kinds.names.entries one.name →
+    ((x : Name) → found_in now.names x ≡ found_in kinds.names x) →
+    Some first ≡ found_in kinds.names one.name →
     ((x : Name) → place_of kinds x ≡ first_with place_in all x) →
     (x : Name) → place_of now x ≡ first_with place_in (all ++ one ∷ []) x
 places_again all one first kinds now same there are x =
@@ -210,13 +210,13 @@ put_is_there before name value now put none =
 
 -- all kinds with a new name
 pub with_new : (all : List Noted) (one : Noted) (kinds now : Kinds) →
-    IsPut kinds.names.entries one.name (placed one) now.names.entries →
-    now.again.entries ≡ kinds.again.entries → found_in kinds.names.entries one.name ≡ None →
+    IsPut kinds.names one.name (placed one) now.names →
+    now.again.entries ≡ kinds.again.entries → found_in kinds.names one.name ≡ None →
     IsKinds all kinds → IsKinds (all ++ one ∷ []) now
 with_new all one kinds now put kept free is =
     kinds_push all one kinds now (put_new kinds now one put kept free (is.among one.name free))
     (places_new all one kinds now put free is.places)
-    (λ x gone. ap (λ es. found_in es x) kept ∙ among_put kinds.names.entries now.names.entries
+    (λ x gone. ap (λ es. found_in es x) kept ∙ among_put kinds.names now.names
     kinds.again.entries one.name (placed one) put is.among x gone)
     (λ empty. first_new all one
     (sym (is.places one.name) ∙ ap (option_map (λ (p : Placed). p.at)) free)
@@ -225,31 +225,31 @@ with_new all one kinds now put kept free is =
 
 -- all kinds with a name that was there already
 pub with_again : (all : List Noted) (one : Noted) (first : Placed) (kinds now : Kinds)
-    (mid : Entries Placed) → IsPut kinds.names.entries one.name (placed one) mid →
-    Some first ≡ found_in kinds.names.entries one.name →
-    IsPut mid one.name first now.names.entries →
+    (mid : Entries Placed) → IsPut kinds.names one.name (placed one) mid →
+    Some first ≡ found_in kinds.names one.name →
+    IsPut mid one.name first now.names →
     IsPut kinds.again.entries one.name
     (firsts_both (unwrap_or (found_in kinds.again.entries one.name) (firsts_of first))
     (firsts_of (placed one))) now.again.entries →
     IsKinds all kinds → IsKinds (all ++ one ∷ []) now
 with_again all one first kinds now mid put there back twice is =
-    let same = same_names kinds.names.entries mid now.names.entries one.name (placed one) first put
+    let same = same_names kinds.names mid now.names one.name (placed one) first put
     there back in
     kinds_push all one kinds now (put_again kinds now one first same there twice)
     (places_again all one first kinds now same there is.places)
-    (among_again kinds.names.entries now.names.entries kinds.again.entries now.again.entries
+    (among_again kinds.names now.names kinds.again.entries now.again.entries
     one.name first _ same there twice is.among)
     (λ empty. absurd (put_is_there kinds.again.entries one.name _ now.again.entries twice empty))
     is
 
 -- tables with the same entries are of the same names
 pub same_kinds : (all : List Noted) (kinds now : Kinds) →
-    now.names.entries ≡ kinds.names.entries → now.again.entries ≡ kinds.again.entries →
+    now.names ≡ kinds.names → now.again.entries ≡ kinds.again.entries →
     IsKinds all kinds → IsKinds all now
 same_kinds all kinds now names again is =
     let same : (x : Name) → found now x ≡ found kinds x = λ x.
     ap (λ es. found_by es now.again.entries x) names
-    ∙ ap (λ es. found_by kinds.names.entries es x) again in
+    ∙ ap (λ es. found_by kinds.names es x) again in
     record {
       places = λ x.
           ap (λ es. option_map (λ (p : Placed). p.at) (found_in es x)) names ∙ is.places x;

@@ -2,18 +2,17 @@
 use Rattle.std.specs.Prelude.{◌≡◌, ℕ, if◌then◌else◌, List, [], ◌∷◌, Option, None, Some, option_and_then}
 use Rattle.std.specs.List.{AllByRecursion}
 use Rattle.std.specs.Option.{option_map, option_or}
-use Rattle.std.specs.Borrow.{Bor}
-use Rattle.std.specs.Map.{lookup}
 use Rattle.std.specs.Str.{bytes_eq}
 use Rattle.kat_syntax.specs.Tables.{Name}
 use Rattle.kat_syntax.specs.Around.{CtorSeen, RegisterSeen}
 use Rattle.kat_syntax.specs.Declares.{Declared, Meant}
 use Rattle.kat_syntax.specs.Declares as meant
 use Rattle.kat_tables.specs.declared.seen.Stand.{Stand}
-use Rattle.kat_tables.specs.declared.kinds.Meaning.{Meaning}
-use Rattle.kat_tables.specs.declared.kinds.Meaning.TheVariants.{AType, AMember, ACtor, ARegister, ARegion, APredicate, AFunction, ALemma, ABlock}
+use Rattle.kat_tables.specs.declared.placed.Meaning.{Meaning}
+use Rattle.kat_tables.specs.declared.placed.Meaning.TheVariants.{AType, AMember, ACtor, ARegister, ARegion, APredicate, AFunction, ALemma, ABlock}
 use Rattle.kat_tables.specs.declared.kinds.Kinds.{Kinds}
-use Rattle.kat_tables.specs.declared.kinds.Placed.{Placed}
+pub use Rattle.kat_tables.specs.Entries.{Entries, found_in, IsPut}
+use Rattle.kat_tables.specs.declared.placed.Placed.{Placed}
 use Rattle.kat_tables.specs.declared.kinds.Firsts.{Firsts}
 
 -- a declared name: where it stands, and what the tables keep of its meaning
@@ -129,19 +128,6 @@ abbrev pub joined : Option Firsts → Firsts → Firsts
 joined None later = later
 joined (Some first) later = firsts_both first later
 
--- the names in a table, with what each is
-abbrev pub Entries : Type 0 → Type 0
-Entries V = List (Bor Name × V)
-
--- what a table says of a name
-abbrev pub found_in : {V : Type 0} → Entries V → Name → Option V
-found_in entries x = lookup (λ (key : Bor Name). bytes_eq x key.now) entries
-
--- a table in which one name is this, whatever it was, and others are what they were
-abbrev pub IsPut : {V : Type 0} → Entries V → Name → V → Entries V → Type 0
-IsPut before name value now = (x : Name) →
-    found_in now x ≡ (if bytes_eq x name then Some value else found_in before x)
-
 -- what the table of first meanings says of a name
 abbrev pub once_in : Entries Placed → Name → Option Firsts
 once_in entries x = option_map firsts_of (found_in entries x)
@@ -152,11 +138,11 @@ found_by names again x = option_or (found_in again x) (once_in names x)
 
 -- the first place of a name
 abbrev pub place_of : Kinds → Name → Option Stand
-place_of kinds x = option_map (λ (one : Placed). one.at) (found_in kinds.names.entries x)
+place_of kinds x = option_map (λ (one : Placed). one.at) (found_in kinds.names x)
 
 -- what is noted of a name
 abbrev pub found : Kinds → Name → Option Firsts
-found kinds x = found_by kinds.names.entries kinds.again.entries x
+found kinds x = found_by kinds.names kinds.again.entries x
 
 -- what is wanted of what a name is
 abbrev pub Getter : Type 0 → Type 0
@@ -215,6 +201,6 @@ pub record IsKinds (all : List Noted) (kinds : Kinds) : Type 0 where
   pub functions : Finds function_of function_in all kinds
   pub lemmas : Finds lemma_of lemma_in all kinds
   pub blocks : Finds block_of block_in all kinds
-  pub among : (x : Name) → found_in kinds.names.entries x ≡ None →
+  pub among : (x : Name) → found_in kinds.names x ≡ None →
       found_in kinds.again.entries x ≡ None
   pub once : kinds.again.entries ≡ [] → AreFirst all all

@@ -8,7 +8,8 @@ ghost use Rattle.kat_syntax.specs.Declares.{type_heads, declared_by, declared_in
 ghost use Rattle.kat_syntax.specs.DeclaredTypes.{IsHeads};
 ghost use Rattle.kat_tables.specs.Meanings.{Noted, noted, IsKinds};
 
-use crate::kinds::{Kinds, Meaning};
+use crate::kinds::Kinds;
+use crate::placed::Meaning;
 use crate::seen::{CtorSeen, RegisterSeen, Stand};
 use kat_ast::count_type;
 use kat_syntax::{Decl, DeclForm, DeclaredTypes, Param, is_type_decl, places_are_of_the_tree};

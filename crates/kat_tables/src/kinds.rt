@@ -5,6 +5,7 @@ ghost use Rattle.std.specs.Option.{option_copied};
 ghost use Rattle.kat_tables.specs.Meanings.{Noted, IsKinds, IsPut, firsts_of, firsts_both, found, found_in, once_in};
 ghost use Rattle.kat_tables.specs.Meanings.{place_of, member_of, ctor_of, register_of, region_of, predicate_of, function_of, lemma_of, block_of};
 
+use crate::placed::{Meaning, Placed, PlacedNames};
 use crate::seen::{CtorSeen, RegisterSeen, Stand};
 use indexmap::IndexMap;
 use kat_text::Text;
@@ -14,15 +15,8 @@ use std::alloc::{AllocError, Global};
 /// those that stand twice are, in a table of their own, which a typed specification leaves empty.
 #[derive(Drop)]
 pub struct Kinds<'a> {
-    names: IndexMap<&'a str, Placed>,
+    names: PlacedNames<'a>,
     again: IndexMap<&'a str, Firsts>,
-}
-
-/// What a declared name is, and where it stands.
-#[derive(Clone, Copy, Drop)]
-pub struct Placed {
-    pub at: Stand,
-    pub meaning: Meaning,
 }
 
 /// The first meaning of a name of each kind.
@@ -38,27 +32,13 @@ pub struct Firsts {
     pub block: Option<u32>,
 }
 
-/// What a declared name is, as far as the tables keep it.
-#[derive(Clone, Copy, Drop)]
-pub enum Meaning {
-    AType,
-    AMember(u32),
-    ACtor(CtorSeen),
-    ARegister(RegisterSeen),
-    ARegion,
-    APredicate,
-    AFunction,
-    ALemma,
-    ABlock,
-}
-
 impl<'a> Kinds<'a> {
     /// No names.
     pub fn new(alloc: Global) -> Kinds<'a>
         ensures { IsKinds [] result }
     {
         Kinds {
-            names: IndexMap::new(alloc),
+            names: PlacedNames::new(alloc),
             again: IndexMap::new(alloc),
         }
     }
@@ -89,24 +69,24 @@ impl<'a> Kinds<'a> {
               meaning = one.now.meaning;
             } ∷ []) self.new) }
     {
-        match self.names.insert(name, *one) {
+        match self.names.insert(name, one) {
             Ok(None) => Ok(()),
             Ok(Some(first)) => self.put_back(name, &first, one),
-            Err(_) => Err(AllocError),
+            Err(error) => Err(error),
         }
     }
 
     /// Lets a name be what it was first, and notes what it is further on.
     fn put_back(&mut self, name: &'a str, first: &Placed, later: &Placed) -> Result<(), AllocError>
-        ensures names { OnOk result (IsPut self.old.names.entries name.now first.now
-            self.new.names.entries) }
+        ensures names { OnOk result (IsPut self.old.names name.now first.now
+            self.new.names) }
         ensures again { OnOk result (IsPut self.old.again.entries name.now (firsts_both
             (unwrap_or (found_in self.old.again.entries name.now) (firsts_of first.now))
             (firsts_of later.now)) self.new.again.entries) }
     {
-        match self.names.insert(name, *first) {
+        match self.names.insert(name, first) {
             Ok(_) => put_again(&mut self.again, name, first, later),
-            Err(_) => Err(AllocError),
+            Err(error) => Err(error),
         }
     }
 
@@ -219,10 +199,10 @@ impl<'a> Kinds<'a> {
 
     /// What a name is that stands once.
     fn find_once(&self, name: &str) -> Option<Firsts>
-        ensures { result ≡ once_in self.now.names.entries name.now }
+        ensures { result ≡ once_in self.now.names name.now }
     {
         match self.names.get(name) {
-            Some(one) => Some(Firsts::of(one)),
+            Some(one) => Some(Firsts::of(&one)),
             None => None,
         }
     }

@@ -7,6 +7,7 @@ mod declare;
 mod forms;
 mod kinds;
 mod params;
+mod placed;
 mod protected;
 mod range;
 mod seen;

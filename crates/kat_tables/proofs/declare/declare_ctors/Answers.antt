@@ -3,7 +3,7 @@ use Rattle.std.specs.List.{sum_by}
 use Rattle.std.proofs.lemmas.List.{at_drop_all}
 use Rattle.kat_ast.specs.Types.{trees_of_param}
 use Rattle.kat_syntax.specs.Declares.{ctors_from}
-use Rattle.kat_tables.specs.declared.kinds.Meaning.TheVariants.{ACtor}
+use Rattle.kat_tables.specs.declared.placed.Meaning.TheVariants.{ACtor}
 use Rattle.kat_tables.specs.Meanings.{noted, IsKinds}
 use Rattle.kat_tables.proofs.Declaring.{noted_none, noted_more, noted_all, next_ctor, next_trees}
 use Rattle.kat_tables.proofs.declare.declare_ctors.Goals as goal

@@ -1,13 +1,9 @@
-use Rattle.std.proofs.Common.{refl}
-use Rattle.kat_tables.proofs.Adding.{put_once}
 use Rattle.kat_tables.proofs.Noting.{on_ok}
 use Rattle.kat_tables.proofs.kinds.Kinds.put_back.Goals as goal
 
 -- the name is what it was first, and the other table has what it is beside that
 pub returns-in-Ok : goal.returns-in-Ok
 returns-in-Ok c = record {
-  names = on_ok c.put_again.result c.put_again.ensures (λ again.
-      put_once c.args.self.now.names.entries c.insert.new.self.entries c.args.name
-      c.args.first.now c.args.name.now refl c.in-Ok.ensures.entries);
+  names = on_ok c.put_again.result c.put_again.ensures (λ again. c.in-Ok.ensures.names);
   again = c.put_again.ensures;
 }

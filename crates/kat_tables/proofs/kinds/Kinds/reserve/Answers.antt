@@ -9,4 +9,4 @@ returns c all is =
     (same_kinds all c.args.self.now (record {
       names = c.reserve.new.self;
       again = c.args.self.now.again;
-    }) c.reserve.ensures.entries refl is)
+    }) c.reserve.ensures refl is)
