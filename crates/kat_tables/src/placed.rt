@@ -135,7 +135,8 @@ fn with_meaning(meanings: &[Meaning], one: &Kept) -> Placed
     }
 }
 
-/// Whether two meanings are the same. Registers, which have one each, are not compared.
+/// Whether two meanings are seen to be the same. Registers, of which there are few, are not
+/// compared.
 fn is_same(one: &Meaning, other: &Meaning) -> bool
     ensures { IsTrue result → one.now ≡ other.now }
 {
