@@ -88,7 +88,13 @@ impl<'a> PlacedNames<'a> {
         ensures err { OnErr result (self.new ≡ self.old) }
     {
         let meaning = number_of(&mut self.meanings, one.meaning)?;
-        match self.names.insert(name, Kept { at: one.at, meaning }) {
+        match self.names.insert(
+            name,
+            Kept {
+                at: one.at,
+                meaning,
+            },
+        ) {
             Ok(Some(first)) => Ok(Some(with_meaning(self.meanings.as_slice(), &first))),
             Ok(None) => Ok(None),
             Err(_) => Err(AllocError),
