@@ -88,7 +88,13 @@ impl<'a> PlacedNames<'a> {
         ensures err { OnErr result (self.new ≡ self.old) }
     {
         let meaning = number_of(&mut self.meanings, one.meaning)?;
-        match self.names.insert(name, Kept { at: one.at, meaning }) {
+        match self.names.insert(
+            name,
+            Kept {
+                at: one.at,
+                meaning,
+            },
+        ) {
             Ok(Some(first)) => Ok(Some(with_meaning(self.meanings.as_slice(), &first))),
             Ok(None) => Ok(None),
             Err(_) => Err(AllocError),
@@ -135,7 +141,8 @@ fn with_meaning(meanings: &[Meaning], one: &Kept) -> Placed
     }
 }
 
-/// Whether two meanings are the same. Registers, which have one each, are not compared.
+/// Whether two meanings are seen to be the same. Registers, of which there are few, are not
+/// compared.
 fn is_same(one: &Meaning, other: &Meaning) -> bool
     ensures { IsTrue result → one.now ≡ other.now }
 {
