@@ -1,7 +1,7 @@
 -- The lemmas that small statements use, the registers that a condition reads, and the names that an
 -- assertion may bind.
-use Rattle.std.proofs.Common.{arith, ◌≡◌, ◌∙◌, ℕ, zero, suc, Bool, true, false, List, [], ◌∷◌, ◌++◌, map, Option, None, Some, inl, inr, refl, sym, ap, subst, slice_get, if◌then◌else◌}
-use Rattle.std.specs.Prelude.{◌⊎◌, Contains, IsSome}
+use Rattle.std.proofs.Common.{arith, ◌≡◌, ◌∙◌, ℕ, zero, suc, Bool, true, false, List, [], ◌∷◌, Option, None, Some, inl, inr, refl, sym, ap, subst, slice_get, if◌then◌else◌}
+use Rattle.std.specs.Prelude.{◌⊎◌, Contains}
 use Rattle.std.specs.List.{AllByRecursion}
 use Rattle.std.specs.Str.{bytes_eq}
 use Rattle.std.proofs.lemmas.Slice.Eq.{bytes_eq-Decides}
@@ -19,16 +19,15 @@ use Rattle.kat_ast.specs.declared.expr.Expr.TheViews.{roll-Expr}
 use Rattle.kat_ast.specs.declared.stm.Stm.{Stm}
 use Rattle.kat_ast.specs.declared.stm.Stm.TheOpen as stm
 use Rattle.kat_ast.specs.declared.stm.Stm.TheOpen.{Stm-F}
-use Rattle.kat_ast.specs.declared.stm.Stm.TheViews.{out-Stm, roll-Stm, out-roll-Stm}
-use Rattle.kat_syntax.specs.Evaluation.{Locals}
+use Rattle.kat_ast.specs.declared.stm.Stm.TheViews.{roll-Stm, out-roll-Stm}
 use Rattle.kat_syntax.specs.Fragments.{one_register}
 use Rattle.kat_syntax.specs.Tables.{Name}
 use Rattle.kat_claims.specs.Names.{assertion_names, expr_names, names_of_assertion, names_of_expr}
-use Rattle.kat_heap.specs.Met.{Carries, HasRegister, HasRegisters, expr_registers, registers_of_expr}
+use Rattle.kat_heap.specs.Met.{Carries, HasRegister, expr_registers, registers_of_expr}
 use Rattle.kat_heap.specs.Walks.{named}
 use Rattle.kat_exec.specs.Examples.{LemmasComeOut, NamesComeOut, RegistersAreRead, a, anything, asks_it, at_zero, g, gives, l, machine, o, of_register, r, sayer, says, the, then_says, x, y}
 use Rattle.kat_exec.specs.Lemmas.{UsesLemma, ByCall, ByItself, ByPart, parts_of_stm}
-use Rattle.kat_exec.specs.Statements.{FunctionOf, contract_of, function_of}
+use Rattle.kat_exec.specs.Statements.{contract_of}
 
 -- by what one layer uses a lemma
 data UsesBy (decls : List DeclForm) (m : Name) (layer : Stm-F Stm) : Type 0 where
