@@ -139,8 +139,9 @@ fn deep_machine(alloc: Global) -> Result<String, AllocError> {
         let below = level - 1;
         text = format!(in alloc; "{text} (union U{level} ((K{level} U{below})))")?;
     }
+    let last = DEEP - 1;
     format!(in alloc;
-        "{text} (register x U69 plain) (fun f () unit (ret unit)) (step f) \
+        "{text} (register x U{last} plain) (fun f () unit (ret unit)) (step f) \
         (dispatch (else (block k))) (untrusted (star)) \
         (block k (entry (star)) (within 1) (change true)) (boot k))"
     )
