@@ -2,6 +2,7 @@ mod Joins
 mod Budgets
 mod Layers
 mod Holders
+mod ReadAlike
 mod NamesRead
 mod Steps
 mod Machines
