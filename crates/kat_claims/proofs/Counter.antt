@@ -1,10 +1,10 @@
 -- The counter machine boots.
 use Rattle.std.proofs.Common.{arith, ◌≡◌, ◌∙◌, ℕ, zero, suc, ◌-◌, Bool, true, false, List, [], ◌∷◌, Option, Some, None, refl, sym, ap, subst, slice_get, if◌then◌else◌, unwrap_or}
-use Rattle.std.specs.Prelude.{IsTrue, IsSome, nat_le, nat_lt, ◌==◌, ◌&&◌, ◌<◌, ◌≤◌, ◌^◌, codes}
+use Rattle.std.specs.Prelude.{IsTrue, IsSome, nat_le, nat_lt, ◌==◌, ◌&&◌, ◌||◌, ◌<◌, ◌≤◌, ◌^◌, codes}
 use Rattle.std.specs.List.{AllByRecursion}
 use Rattle.std.proofs.lemmas.Bool.{and_parts}
 use Rattle.std.proofs.lemmas.Bool.Decides.{nat_tests}
-use Rattle.std.proofs.lemmas.Option.{slice_get-get_or, slice_get_past, slice_get_within}
+use Rattle.std.proofs.lemmas.Option.{none-some, slice_get-get_or, slice_get_past, slice_get_within}
 use Rattle.kat_value.specs.declared.op.Op.TheVariants as op
 use Rattle.kat_value.specs.declared.types.Ty.{Ty}
 use Rattle.kat_value.specs.declared.types.Ty.TheVariants as ty
@@ -25,14 +25,14 @@ use Rattle.kat_ast.specs.declared.stm.Stm.{Stm}
 use Rattle.kat_value.specs.Numbers.{IsNumber}
 use Rattle.kat_ast.specs.declared.assertion.Assertion.TheOpen as assertion
 use Rattle.kat_syntax.specs.Evaluation.{Environment, Nothing, value_of_expr}
-use Rattle.kat_syntax.specs.Fragments.{Fragment, IsOfMemory, IsOfType, Join, JoinAt, nothing, one_register, whole}
+use Rattle.kat_syntax.specs.Fragments.{Fragment, IsOfMemory, IsOfType, Join, nothing, one_register, whole}
 use Rattle.kat_syntax.specs.Holds.{Holds, IsRegion, IsThere, guards, is_true, predicates_of}
 use Rattle.kat_syntax.specs.Phases.{Boots, IsGuardedAt, in_dispatch, phase_of, with_kept}
 use Rattle.kat_syntax.specs.States.{IsState, cell_at, memory_of, register_position, register_types}
 use Rattle.kat_syntax.specs.TypeTable.{types_of_decls}
 use Rattle.kat_claims.specs.Counter.{at_zero, byte, counter, entry, holding, image, in_user, mode_of, named, own, read, upper}
 use Rattle.kat_claims.specs.Security.{CounterBoots}
-use Rattle.kat_claims.proofs.Joins.{joins_are_unions}
+use Rattle.kat_claims.proofs.Joins.{split_place, taken_off, with_nothing, without}
 use Rattle.kat_claims.proofs.Layers.{closed}
 use Rattle.kat_claims.proofs.Steps.{expr_layer}
 
@@ -80,43 +80,8 @@ module _ (trap user kernel step : Stm) (pre post : Assertion) where
     registers = simp (bits_have_type, member_has_type);
     first = refl;
     count = refl;
-    fitting = (
-      refl,
-      (
-        refl,
-        (
-          refl,
-          (
-            refl,
-            (
-              refl,
-              (
-                refl,
-                (
-                  refl,
-                  (
-                    refl,
-                    (
-                      refl,
-                      (
-                        refl,
-                        (
-                          refl,
-                          (
-                            refl,
-                            (refl, (refl, (refl, (refl, tt)))),
-                          ),
-                        ),
-                      ),
-                    ),
-                  ),
-                ),
-              ),
-            ),
-          ),
-        ),
-      ),
-    );
+    fitting = (refl, (refl, (refl, (refl, (refl, (refl, (refl, (refl, (refl, (refl, (refl, (refl,
+        (refl, (refl, (refl, (refl, tt))))))))))))))));
   }
 
   -- the conditions of its dispatch
@@ -157,89 +122,43 @@ module _ (trap user kernel step : Stm) (pre post : Assertion) where
   abbrev cells_of_user : ℕ → Option ℕ
   cells_of_user i = if nat_le 8 i then cell_at image i else None
 
-  abbrev region : Fragment
-  region = record { registers = λ at. None; cells = cells_of_user }
-
-  abbrev behind_mode : Fragment
-  behind_mode = record { registers = λ at. if at == 1 then Some first_byte else None; cells = cells_of_user }
+  abbrev is_owned : ℕ → Bool
+  is_owned at = (at == 0) || (at == 1)
 
   abbrev owned : Fragment
   owned = record {
-    registers = λ at. if at == 0 then Some kernel_mode
-        else (if at == 1 then Some first_byte else None);
+    registers = λ at. if is_owned at then slice_get image.registers at else None;
     cells = cells_of_user;
   }
 
   -- and the rest
   abbrev rest : Fragment
   rest = record {
-    registers = λ at. if at == 0 then None
-        else (if at == 1 then None else slice_get image.registers at);
+    registers = λ at. if is_owned at then None else slice_get image.registers at;
     cells = λ i. if nat_le 8 i then None else cell_at image i;
   }
 
-  -- no later position is one of these two
-  no_first : (at : ℕ) → (suc (suc at) == 0) ≡ false
-  no_first at = grind (arith, nat_tests)
-
-  no_second : (at : ℕ) → (suc (suc at) == 1) ≡ false
-  no_second at = grind (arith, nat_tests)
-
-  -- a union of registers there
-  none_there :
-      (a b : Bool) (v w : Value) → a ≡ false → b ≡ false →
-      JoinAt (if a then Some v else (if b then Some w else None)) (if a then Some v else None)
-      (if b then Some w else None)
-  none_there false false v w a_not b_not = refl
-  none_there true b v w a_not b_not = absurd (cc)
-  none_there false true v w a_not b_not = absurd (cc)
-
-  none_behind :
-      (b : Bool) (w : Value) → JoinAt (if b then Some w else None) (if b then Some w else None) None
-  none_behind false w = refl
-  none_behind true w = refl
-
-  rest_there :
-      (a b : Bool) (v w : Value) (o : Option Value) → a ≡ false → b ≡ false →
-      JoinAt o (if a then Some v else (if b then Some w else None))
-      (if a then None else (if b then None else o))
-  rest_there false false v w o a_not b_not = refl
-  rest_there true b v w o a_not b_not = absurd (cc)
-  rest_there false true v w o a_not b_not = absurd (cc)
-
-  -- a part and the rest of one place
-  split_cell :
-      (b : Bool) (o : Option ℕ) → JoinAt o (if b then o else None) (if b then None else o)
-  split_cell true None = refl
-  split_cell true (Some n) = refl
-  split_cell false o = refl
-
   split_image : Join (whole image) owned rest
   split_image = record {
-    registers = at_register;
-    cells = λ i. split_cell (nat_le 8 i) (cell_at image i);
+    registers = λ at. split_place (is_owned at) (slice_get image.registers at);
+    cells = λ i. split_place (nat_le 8 i) (cell_at image i);
   }
-    where
-      at_register : (at : ℕ) → JoinAt (slice_get image.registers at) (owned.registers at) (rest.registers at)
-      at_register zero = refl
-      at_register (suc zero) = refl
-      at_register (suc (suc at)) =
-          rest_there (suc (suc at) == 0) (suc (suc at) == 1) kernel_mode first_byte
-          (slice_get image.registers (suc (suc at))) (no_first at) (no_second at)
 
-  split_mode : Join owned (one_register 0 kernel_mode) behind_mode
-  split_mode = record { registers = at_register; cells = λ i. refl }
-    where
-      at_register : (at : ℕ) →
-          JoinAt (owned.registers at) (if at == 0 then Some kernel_mode else None) (behind_mode.registers at)
-      at_register zero = refl
-      at_register (suc zero) = refl
-      at_register (suc (suc at)) =
-          none_there (suc (suc at) == 0) (suc (suc at) == 1) kernel_mode first_byte
-          (no_first at) (no_second at)
+  -- its region, which has no register
+  abbrev region : Fragment
+  region = without 1 (without 0 owned)
 
-  split_first : Join behind_mode (one_register 1 first_byte) region
-  split_first = record { registers = λ at. none_behind (at == 1) first_byte; cells = λ i. refl }
+  no_register : (at : ℕ) → region.registers at ≡ None
+  no_register at = by (at == 0) (at == 1)
+    where
+      by :
+          (a b : Bool) →
+          (if b then None
+          else (if a then None else (if a || b then slice_get image.registers at else None)))
+          ≡ None
+      by a true = refl
+      by true false = refl
+      by false false = refl
 
   -- its fragment has neither the count nor the code
   no_count : (at : ℕ) → register_position decls (codes "count") ≡ Some at → owned.registers at ≡ None
@@ -337,22 +256,19 @@ module _ (trap user kernel step : Stm) (pre post : Assertion) where
     refl,
     record {
       fits = record {
-        registers = λ at v e. none_some e;
+        registers = λ at v e. absurd (none-some v (sym (no_register at) ∙ e));
         cells = λ i n e. in_region i n (nat_le 8 i) e;
       };
-      registers = λ at. refl;
+      registers = no_register;
       cells = λ i. cell_there i (nat_le 0 i) (nat_lt i 16) refl refl;
     },
   )
     where
-      none_some : {A : Type 0} {a : A} {T : Type 0} → None ≡ Some a → T
-      none_some e = absurd (cc)
-
       in_region :
           (i n : ℕ) (b : Bool) → (if b then cell_at image i else None) ≡ Some n →
           IsOfMemory (memory_of decls) i n
       in_region i n true e = of_memory i n (sym (cell_is i) ∙ e)
-      in_region i n false e = none_some e
+      in_region i n false e = absurd (none-some n e)
 
   -- it holds the entry
   entry_holds : Holds entry env owned
@@ -362,8 +278,8 @@ module _ (trap user kernel step : Stm) (pre post : Assertion) where
       let own_first = holding (codes "pc") (byte 0) in
       closed predicates (assertion.Star (own_mode ∷ own_first ∷ own ∷ [])) env owned (
         one_register 0 kernel_mode,
-        behind_mode,
-        split_mode,
+        without 0 owned,
+        taken_off owned 0 kernel_mode refl,
         closed predicates (assertion.Register (codes "mode") (mode_of (codes "Kernel"))) env
             (one_register 0 kernel_mode) (
               0,
@@ -376,13 +292,13 @@ module _ (trap user kernel step : Stm) (pre post : Assertion) where
         (
           one_register 1 first_byte,
           region,
-          split_first,
+          taken_off (without 0 owned) 1 first_byte refl,
           closed predicates (assertion.Register (codes "pc") (byte 0)) env (one_register 1 first_byte)
               (1, first_byte, refl, expr_layer env (expr.Bits 8 0), byte_typed, refl),
           (
             region,
             nothing,
-            joins_are_unions.unit region,
+            with_nothing region,
             closed predicates (assertion.Region (codes "own") []) env region ([], refl, is_region),
             refl,
           ),

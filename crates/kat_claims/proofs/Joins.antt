@@ -1,8 +1,8 @@
 -- Disjoint unions of fragments.
-use Rattle.std.proofs.Common.{◌≡◌, ℕ, Option, Some, None, refl, sym, ap₂, subst, ◌∙◌}
+use Rattle.std.proofs.Common.{◌≡◌, ◌==◌, ℕ, Bool, true, false, Option, Some, None, refl, sym, ap₂, subst, ◌∙◌, eqb-true, if◌then◌else◌}
 use Rattle.std.proofs.Math.Path.{fun_ext}
 use Rattle.kat_value.specs.declared.value.Value.{Value}
-use Rattle.kat_syntax.specs.Fragments.{Fragment, JoinAt, Join, nothing}
+use Rattle.kat_syntax.specs.Fragments.{Fragment, JoinAt, Join, nothing, one_register}
 use Rattle.kat_claims.specs.Fragments.{JoinsAreUnions}
 
 -- a union at one place, in the other order
@@ -70,6 +70,30 @@ regroup {p} {f} {g} {a} {b} h k = (
         (g.cells index) (h.cells index) (k.cells index);
   },
 )
+
+-- what one part has where this is true, and the other elsewhere
+pub split_place :
+    {A : Type 0} (b : Bool) (o : Option A) →
+    JoinAt o (if b then o else None) (if b then None else o)
+split_place true None = refl
+split_place true (Some v) = refl
+split_place false o = refl
+
+-- a fragment without a register
+abbrev pub without : ℕ → Fragment → Fragment
+without r f = record f { registers = λ at. if at == r then None else f.registers at }
+
+-- is what is left of it where the register is taken off
+pub taken_off :
+    (f : Fragment) (r : ℕ) (v : Value) → f.registers r ≡ Some v →
+    Join f (one_register r v) (without r f)
+taken_off f r v there = record { registers = λ at. by at (at == r) refl; cells = λ i. refl }
+  where
+    by :
+        (at : ℕ) (b : Bool) → (at == r) ≡ b →
+        JoinAt (f.registers at) (if b then Some v else None) (if b then None else f.registers at)
+    by at true is = subst (λ k. f.registers k ≡ Some v) (sym (eqb-true at r is)) there
+    by at false is = refl
 
 -- nothing at a place adds nothing
 alone_at : {A : Type 0} (o : Option A) → JoinAt o o None

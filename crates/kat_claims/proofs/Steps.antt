@@ -113,15 +113,7 @@ module _ (kind : RegisterKind) (cases : List When) (otherwise : Phase) (change :
     });
   }
 
--- a run over one cycle that is completed
-pub one_cycle :
-    (spec : Spec) (s t : MachineState) → cycle_of spec 1 s ≡ leaves t 0 →
-    run_of spec 1 s (Cycle ∷ []) ≡ record { boundaries = s ∷ t ∷ []; end = Ended }
-one_cycle spec s t first =
-    ap (λ (c : CycleOutcome). with_boundary s (after_cycle 1 c
-    (λ next. run_from spec 1 1 next []))) first
-
--- a run over two
+-- a run over two cycles that are completed
 pub two_cycles :
     (spec : Spec) (s t u : MachineState) → cycle_of spec 1 s ≡ leaves t 0 →
     cycle_of spec 1 t ≡ leaves u 0 →
