@@ -13,5 +13,6 @@ mod Cuts
 mod Faultless
 mod OutsideCells
 mod OutsideRegisters
+mod OutsidePlaces
 mod OutsidePhase
 mod Outside

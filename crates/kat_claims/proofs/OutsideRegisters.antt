@@ -7,90 +7,24 @@ use Rattle.std.proofs.lemmas.Bool.{and_parts, eqb-true, false≢true}
 use Rattle.std.proofs.lemmas.Slice.Eq.{bytes_eq-Decides}
 use Rattle.kat_ast.specs.declared.type_name.Param.{Param}
 use Rattle.kat_ast.specs.declared.type_name.TypeName.{TypeName}
-use Rattle.kat_ast.specs.declared.decl.CellsKind.TheVariants as cells
 use Rattle.kat_ast.specs.declared.decl.DeclForm.{DeclForm}
 use Rattle.kat_ast.specs.declared.decl.DeclForm.TheVariants as d
 use Rattle.kat_ast.specs.declared.decl.RegisterKind.{RegisterKind}
 use Rattle.kat_ast.specs.declared.decl.RegisterKind.TheVariants as register
 use Rattle.kat_ast.specs.Types.{trees_of_param}
-use Rattle.kat_syntax.specs.declared.places.OutsidePlace.TheVariants.{Register as OutsideRegister}
 use Rattle.kat_syntax.specs.declared.type_rule.TypeRule.TheVariants.{NameTaken}
 use Rattle.kat_syntax.specs.Around.{RegisterSeen, a_register, first_named}
-use Rattle.kat_syntax.specs.Declares.{Declared, ctors_from, declared_by, declared_from, look_up, members_from, type_of_name}
-use Rattle.kat_syntax.specs.OutsideWrites.{outside_from}
+use Rattle.kat_syntax.specs.Declares.{Declared, ctors_from, declared_by, declared_from, declared_in, is_type_decl, look_up, members_from, type_of_name}
 use Rattle.kat_syntax.specs.Tables.{Name, RegisterDecl, register_names, registers_of}
 use Rattle.kat_syntax.specs.TypingDeclarations.{decl_faults, stands_at}
 use Rattle.kat_syntax.specs.TypingExpressions.{is_of_kind, is_outside_kind, is_protected_kind}
 use Rattle.kat_claims.proofs.Faultless.{AreClean, met, names_clean, no_first}
 
 -- the register at this position is outside
-pub record IsOutsideAt (decls : List DeclForm) (at : ℕ) : Type 0 where
+pub record IsOutsideAt (registers : List RegisterDecl) (at : ℕ) : Type 0 where
   pub register : RegisterDecl
-  pub there : slice_get (registers_of decls) at ≡ Some register
+  pub there : slice_get registers at ≡ Some register
   pub outside : is_outside_kind register.kind ≡ true
-
--- an outside place that is a register, counted from the first register
-pub record IsOutsideFrom (k : ℕ) (decls : List DeclForm) (at : ℕ) : Type 0 where
-  pub further : ℕ
-  pub is : at ≡ k + further
-  pub there : IsOutsideAt decls further
-
--- one register further
-one_more :
-    (k : ℕ) (x : Name) (type : TypeName) (kind : RegisterKind) (decls : List DeclForm) (at : ℕ) →
-    IsOutsideFrom (k + 1) decls at → IsOutsideFrom k (d.Register x type kind ∷ decls) at
-one_more k x type kind decls at from = record {
-  further = suc from.further;
-  is = let is = from.is in omega (arith, is);
-  there = record {
-    register = from.there.register;
-    there = from.there.there;
-    outside = from.there.outside;
-  };
-}
-
--- the same registers
-no_more :
-    (k : ℕ) (decls rest : List DeclForm) (at : ℕ) → registers_of decls ≡ registers_of rest →
-    IsOutsideFrom k rest at → IsOutsideFrom k decls at
-no_more k decls rest at same from = record {
-  further = from.further;
-  is = from.is;
-  there = record {
-    register = from.there.register;
-    there = ap (λ all. slice_get all from.further) same ∙ from.there.there;
-    outside = from.there.outside;
-  };
-}
-
-pub outside_register :
-    (k : ℕ) (decls : List DeclForm) (n at width : ℕ) →
-    slice_get (outside_from k decls) n ≡ Some (OutsideRegister at width) → IsOutsideFrom k decls at
-outside_register k [] n at width is = absurd (cc)
-outside_register k (d.Register x type register.Outside ∷ decls) zero at width is =
-    let same : k ≡ at = cc in
-    record {
-      further = 0;
-      is = omega (arith, same);
-      there = record {
-        register = record { name = x; type = type; kind = register.Outside };
-        there = refl;
-        outside = refl;
-      };
-    }
-outside_register k (d.Register x type register.Outside ∷ decls) (suc n) at width is =
-    one_more k x type register.Outside decls at (outside_register (k + 1) decls n at width is)
-outside_register k (d.Register x type register.Plain ∷ decls) n at width is =
-    one_more k x type register.Plain decls at (outside_register (k + 1) decls n at width is)
-outside_register k (d.Register x type register.Protected ∷ decls) n at width is =
-    one_more k x type register.Protected decls at (outside_register (k + 1) decls n at width is)
-outside_register k (d.Cells cells.Outside low high ∷ decls) zero at width is = absurd (cc)
-outside_register k (d.Cells cells.Outside low high ∷ decls) (suc n) at width is =
-    no_more k _ decls at refl (outside_register k decls n at width is)
-outside_register k (d.Cells cells.Protected low high ∷ decls) n at width is =
-    no_more k _ decls at refl (outside_register k decls n at width is)
-outside_register k (_ ∷ decls) n at width is =
-    no_more k _ decls at refl (outside_register k decls n at width is)
 
 -- one declared name stands at one declaration
 one_place :
@@ -132,6 +66,15 @@ others_differ all x k m (d.Register y type kind ∷ decls) less first clean = (
 others_differ all x k m (_ ∷ decls) less first clean =
     others_differ all x k (m + 1) decls (omega (arith, less)) first clean.1
 
+-- later registers than one have other names
+later_differ :
+    (all : List DeclForm) (k : ℕ) (x : Name) (type : TypeName) (kind : RegisterKind)
+    (decls : List DeclForm) → AreClean all k (d.Register x type kind ∷ decls) →
+    HaveOthers x (registers_of decls)
+later_differ all k x type kind decls clean =
+    others_differ all x k (k + 1) decls (omega arith) (declared_first all k x type kind clean.0)
+    clean.1
+
 -- what has another name than all registers has another one than each
 other_at :
     (x : Name) (registers : List RegisterDecl) (at : ℕ) (out : RegisterDecl) →
@@ -169,16 +112,14 @@ pub protected_differ :
 protected_differ all k [] at out clean there outside = tt
 protected_differ all k (d.Register x type kind ∷ decls) zero out clean there outside =
     let is : record { name = x; type = type; kind = kind } ≡ out = cc in
-    let others = others_differ all x k (k + 1) decls (omega arith)
-    (declared_first all k x type kind clean.0) clean.1 in (
+    let others = later_differ all k x type kind decls clean in (
       λ protected same. not_both kind protected
           (ap (λ (one : RegisterDecl). is_outside_kind one.kind) is ∙ outside),
       all_others out.name (registers_of decls)
           (subst (λ (one : RegisterDecl). HaveOthers one.name (registers_of decls)) is others),
     )
 protected_differ all k (d.Register x type kind ∷ decls) (suc at) out clean there outside =
-    let others = others_differ all x k (k + 1) decls (omega arith)
-    (declared_first all k x type kind clean.0) clean.1 in (
+    let others = later_differ all k x type kind decls clean in (
       λ protected same. other_at x (registers_of decls) at out others there same,
       protected_differ all (k + 1) decls at out clean.1 there outside,
     )
@@ -208,6 +149,24 @@ past_ctors all k p at (ctor ∷ ctors) more r =
     passed (bytes_eq ctor.name r)
     (look_up a_register (ctors_from all k p (at + trees_of_param ctor) ctors ++ more) r)
     ∙ past_ctors all k p (at + trees_of_param ctor) ctors more r
+
+-- nor is what another declaration than a register declares
+past :
+    (all : List DeclForm) (k p : ℕ) (decl : DeclForm) (more : List Declared) (r : Name) →
+    registers_of (decl ∷ []) ≡ [] →
+    look_up a_register (declared_in all k p decl ++ more) r ≡ look_up a_register more r
+past all k p (d.Register x type kind) more r none = absurd (cc)
+past all k p (d.Enum x members) more r none =
+    passed (bytes_eq x r) _ ∙ past_members k p 4 members more r
+past all k p (d.Union x ctors) more r none =
+    passed (bytes_eq x r) _ ∙ past_ctors all k p 4 ctors more r
+past all k p (d.Record x fields) more r none = passed (bytes_eq x r) _
+past all k p (d.Region x params i e) more r none = passed (bytes_eq x r) _
+past all k p (d.Predicate x ins outs body) more r none = passed (bytes_eq x r) _
+past all k p (d.Fun x params result body) more r none = passed (bytes_eq x r) _
+past all k p (d.Lemma x params ns pre post steps) more r none = passed (bytes_eq x r) _
+past all k p (d.Block block) more r none = passed (bytes_eq block.name r) _
+past all k p _ more r none = refl
 
 -- what the name of a register means is the first register of this name
 abbrev MeansFirst : List DeclForm → ℕ → ℕ → List DeclForm → Name → Type 0
@@ -252,12 +211,6 @@ means_register all k p x type kind decls r rest (suc q) one there same before pl
         ∙ (bytes_eq-Decides r x).1 (sym ((bytes_eq-Decides x r).0 e))))
     other false e = refl
 
--- one name that is no register before others
-past_one :
-    (x r : Name) (seen : Option RegisterSeen) →
-    IsPlain (if bytes_eq x r then option_or None seen else seen) → IsPlain seen
-past_one x r seen = subst IsPlain (passed (bytes_eq x r) seen)
-
 pub means_first :
     (all : List DeclForm) (k p : ℕ) (decls : List DeclForm) (r : Name) →
     MeansFirst all k p decls r
@@ -265,25 +218,7 @@ means_first all k p [] r q one there same before plain = absurd (cc)
 means_first all k p (d.Register x type kind ∷ decls) r q one there same before plain =
     means_register all k p x type kind decls r (means_first all (k + 1) p decls r) q one there same
     before plain
-means_first all k p (d.Enum x members ∷ decls) r q one there same before plain =
-    means_first all (k + 1) (p + 1) decls r q one there same before
-    (subst IsPlain (past_members k p 4 members (declared_from all (k + 1) (p + 1) decls) r)
-    (past_one x r _ plain))
-means_first all k p (d.Union x ctors ∷ decls) r q one there same before plain =
-    means_first all (k + 1) (p + 1) decls r q one there same before
-    (subst IsPlain (past_ctors all k p 4 ctors (declared_from all (k + 1) (p + 1) decls) r)
-    (past_one x r _ plain))
-means_first all k p (d.Record x fields ∷ decls) r q one there same before plain =
-    means_first all (k + 1) (p + 1) decls r q one there same before (past_one x r _ plain)
-means_first all k p (d.Region x params i e ∷ decls) r q one there same before plain =
-    means_first all (k + 1) p decls r q one there same before (past_one x r _ plain)
-means_first all k p (d.Predicate x ins outs body ∷ decls) r q one there same before plain =
-    means_first all (k + 1) p decls r q one there same before (past_one x r _ plain)
-means_first all k p (d.Fun x params result body ∷ decls) r q one there same before plain =
-    means_first all (k + 1) p decls r q one there same before (past_one x r _ plain)
-means_first all k p (d.Lemma x params ns pre post steps ∷ decls) r q one there same before plain =
-    means_first all (k + 1) p decls r q one there same before (past_one x r _ plain)
-means_first all k p (d.Block block ∷ decls) r q one there same before plain =
-    means_first all (k + 1) p decls r q one there same before (past_one block.name r _ plain)
-means_first all k p (_ ∷ decls) r q one there same before plain =
-    means_first all (k + 1) p decls r q one there same before plain
+means_first all k p (decl ∷ decls) r q one there same before plain =
+    let further = if is_type_decl decl then p + 1 else p in
+    means_first all (k + 1) further decls r q one there same before
+    (subst IsPlain (past all k p decl (declared_from all (k + 1) further decls) r refl) plain)
