@@ -9,7 +9,7 @@ use Rattle.kat_ast.specs.declared.decl.DeclForm.{DeclForm}
 use Rattle.kat_syntax.specs.Cycle.{CycleOutcome, Completed, OutOfCalls, FailedAt, cycle_of}
 use Rattle.kat_syntax.specs.Evaluation.{BothEnds, value_of_expr}
 use Rattle.kat_syntax.specs.FirstTypeFault.{IsTyped}
-use Rattle.kat_syntax.specs.Machine.{MachineState, Progress}
+use Rattle.kat_syntax.specs.Machine.{MachineState}
 use Rattle.kat_syntax.specs.OutsideWrites.{NoFit, NoPlace, Poked, Wrote, poked}
 use Rattle.kat_syntax.specs.declared.places.Poke.{Poke}
 use Rattle.kat_syntax.specs.Phases.{IsCodeThere, phase_of}
@@ -221,31 +221,38 @@ abbrev pub BeginsAt : Spec → Run → MachineState → Type 0
 BeginsAt spec run s = Begins spec.decls (s ∷ []) run.boundaries
 
 -- more events behind a run, whose first boundary looks as where they begin
-module _ (spec : Spec) (n : ℕ) (more : List Event) (Good : MachineState → Type 0)
-    (behind_cycle : (s : MachineState) (p : Progress) → Good s → cycle_of spec n s ≡ Completed p → Good p.state)
-    (behind_write : (s : MachineState) (poke : Poke) → Good s → Good (state_behind s (poked spec poke s)))
-    (first : (k : ℕ) (s : MachineState) → Good s → BeginsAt spec (run_from spec n k s more) s) where
-  pub cut_at : (k : ℕ) (s : MachineState) (events : List Event) → Good s →
+module _ (spec : Spec) (n : ℕ) (more : List Event)
+    (first : (k : ℕ) (s : MachineState) → BeginsAt spec (run_from spec n k s more) s) where
+  cut_at :
+      (k : ℕ) (s : MachineState) (events : List Event) →
       IsCut spec.decls (run_from spec n k s (events ++ more)) (run_from spec n k s events)
-  cut_at k s [] good = record { begins = first k s good; ends = λ no. tt }
-  cut_at k s (Cycle ∷ events) good =
-      by (cycle_of spec n s) (λ p is. cut_at (k + 1) p.state events (behind_cycle s p good is)) refl
+  cut_at k s [] = record { begins = first k s; ends = λ no. tt }
+  cut_at k s (Cycle ∷ events) =
+      by (cycle_of spec n s) (λ next. cut_at (k + 1) next events)
     where
       by : (c : CycleOutcome) →
-          ((p : Progress) → cycle_of spec n s ≡ Completed p →
-          IsCut spec.decls (run_from spec n (k + 1) p.state (events ++ more))
-          (run_from spec n (k + 1) p.state events)) →
-          (cycle_of spec n s ≡ c) →
+          ((next : MachineState) →
+          IsCut spec.decls (run_from spec n (k + 1) next (events ++ more))
+          (run_from spec n (k + 1) next events)) →
           IsCut spec.decls
-          (with_boundary s (after_cycle (k + 1) c (λ next. run_from spec n (k + 1) next (events ++ more))))
+          (with_boundary s (after_cycle (k + 1) c
+          (λ next. run_from spec n (k + 1) next (events ++ more))))
           (with_boundary s (after_cycle (k + 1) c (λ next. run_from spec n (k + 1) next events)))
-      by (Completed p) next is =
-          let later = next p is in
+      by (Completed p) next =
+          let later = next p.state in
           record { begins = (same_look spec.decls s, later.begins); ends = later.ends }
-      by OutOfCalls next is = record { begins = (same_look spec.decls s, tt); ends = λ no. no }
-      by (FailedAt place) next is = record { begins = (same_look spec.decls s, tt); ends = λ no. no }
-  cut_at k s (OutsideWrite poke ∷ events) good =
-      cut_at k (state_behind s (poked spec poke s)) events (behind_write s poke good)
+      by OutOfCalls next = record { begins = (same_look spec.decls s, tt); ends = λ no. no }
+      by (FailedAt place) next = record { begins = (same_look spec.decls s, tt); ends = λ no. no }
+  cut_at k s (OutsideWrite poke ∷ events) =
+      cut_at k (state_behind s (poked spec poke s)) events
+
+  secure_before :
+      (start : MachineState) (events : List Event) →
+      IsSecureRun spec.decls (run_of spec n start (events ++ more)) →
+      IsSecureRun spec.decls (run_of spec n start events)
+  secure_before start events =
+      secure_cut spec.decls (run_of spec n start (events ++ more)) (run_of spec n start events)
+      (cut_at 0 start events)
 
 -- events that are none or begin with a cycle
 begins_with_cycle :
@@ -319,13 +326,9 @@ begins_anywhere spec n k s (OutsideWrite poke ∷ more) keep typed =
 -- what runs do goes by their events
 pub runs_go_by_events : OutsideWritesKeep → RunsGoByEvents
 runs_go_by_events keep = record {
-  ended = λ spec n start events more ends. ended_from spec n 0 start events more ends;
-  cut = λ spec n start events more is secure.
-      secure_cut spec.decls (run_of spec n start (events ++ more)) (run_of spec n start events)
-      (cut_at spec n more (λ s. Unit {0}) (λ s p good is. tt) (λ s poke good. tt)
-      (λ k s good. begins_with_cycle spec n k s more is) 0 start events tt) secure;
-  cut_anywhere = λ spec n start events more typed secure.
-      secure_cut spec.decls (run_of spec n start (events ++ more)) (run_of spec n start events)
-      (cut_at spec n more (λ s. Unit {0}) (λ s p good is. tt) (λ s poke good. tt)
-      (λ k s good. begins_anywhere spec n k s more keep typed) 0 start events tt) secure;
+  ended = λ spec n. ended_from spec n 0;
+  cut = λ spec n start events more is.
+      secure_before spec n more (λ k s. begins_with_cycle spec n k s more is) start events;
+  cut_anywhere = λ spec n start events more typed.
+      secure_before spec n more (λ k s. begins_anywhere spec n k s more keep typed) start events;
 }

@@ -15,8 +15,8 @@ swapped_at p (Some v) (Some w) e = absurd e
 -- a union in the other order
 pub swapped : {p f g : Fragment} → Join p f g → Join p g f
 swapped {p} {f} {g} h = record {
-  registers = λ at. swapped_at (p.registers at) (f.registers at) (g.registers at) (h.registers at);
-  cells = λ index. swapped_at (p.cells index) (f.cells index) (g.cells index) (h.cells index);
+  registers = λ at. swapped_at _ _ _ (h.registers at);
+  cells = λ index. swapped_at _ _ _ (h.cells index);
 }
 
 -- what one of two has at a place
@@ -58,16 +58,12 @@ pub regroup :
 regroup {p} {f} {g} {a} {b} h k = (
   joined b g,
   record {
-    registers = λ at. left_at (p.registers at) (f.registers at) (a.registers at) (b.registers at)
-        (g.registers at) (h.registers at) (k.registers at);
-    cells = λ index. left_at (p.cells index) (f.cells index) (a.cells index) (b.cells index)
-        (g.cells index) (h.cells index) (k.cells index);
+    registers = λ at. left_at _ _ _ _ _ (h.registers at) (k.registers at);
+    cells = λ index. left_at _ _ _ _ _ (h.cells index) (k.cells index);
   },
   record {
-    registers = λ at. right_at (p.registers at) (f.registers at) (a.registers at) (b.registers at)
-        (g.registers at) (h.registers at) (k.registers at);
-    cells = λ index. right_at (p.cells index) (f.cells index) (a.cells index) (b.cells index)
-        (g.cells index) (h.cells index) (k.cells index);
+    registers = λ at. right_at _ _ _ _ _ (h.registers at) (k.registers at);
+    cells = λ index. right_at _ _ _ _ _ (h.cells index) (k.cells index);
   },
 )
 
@@ -123,10 +119,8 @@ same_fragment {p} {q} r c =
 -- a union is determined by its parts
 pub determined : {p q f g : Fragment} → Join p f g → Join q f g → p ≡ q
 determined {p} {q} {f} {g} h k = same_fragment
-    (fun_ext (λ at. same_at (p.registers at) (q.registers at) (f.registers at) (g.registers at)
-    (h.registers at) (k.registers at)))
-    (fun_ext (λ index. same_at (p.cells index) (q.cells index) (f.cells index) (g.cells index)
-    (h.cells index) (k.cells index)))
+    (fun_ext (λ at. same_at _ _ _ _ (h.registers at) (k.registers at)))
+    (fun_ext (λ index. same_at _ _ _ _ (h.cells index) (k.cells index)))
 
 -- unions of disjoint fragments are an algebra
 pub joins_are_unions : JoinsAreUnions
