@@ -5,7 +5,6 @@ use Rattle.std.specs.List.{AllByRecursion}
 use Rattle.std.proofs.lemmas.Bool.{and_parts}
 use Rattle.std.proofs.lemmas.Bool.Decides.{nat_tests}
 use Rattle.std.proofs.lemmas.Option.{none-some, slice_get-get_or, slice_get_past, slice_get_within}
-use Rattle.kat_value.specs.declared.op.Op.TheVariants as op
 use Rattle.kat_value.specs.declared.types.Ty.{Ty}
 use Rattle.kat_value.specs.declared.types.Ty.TheVariants as ty
 use Rattle.kat_value.specs.declared.types.TypeDecl.{TypeDecl}
@@ -30,7 +29,7 @@ use Rattle.kat_syntax.specs.Holds.{Holds, IsRegion, IsThere, guards, is_true, pr
 use Rattle.kat_syntax.specs.Phases.{Boots, IsGuardedAt, in_dispatch, phase_of, with_kept}
 use Rattle.kat_syntax.specs.States.{IsState, cell_at, memory_of, register_position, register_types}
 use Rattle.kat_syntax.specs.TypeTable.{types_of_decls}
-use Rattle.kat_claims.specs.Counter.{at_zero, byte, counter, entry, holding, image, in_user, mode_of, named, own, read, upper}
+use Rattle.kat_claims.specs.Counter.{at_zero, byte, counter, entry, holding, image, in_user, mode_of, own, upper}
 use Rattle.kat_claims.specs.Security.{CounterBoots}
 use Rattle.kat_claims.proofs.Joins.{split_place, taken_off, with_nothing, without}
 use Rattle.kat_claims.proofs.Layers.{closed}
@@ -89,24 +88,10 @@ module _ (trap user kernel step : Stm) (pre post : Assertion) where
   there = in_dispatch decls image
 
   not_in_user : value_of_expr there in_user ≡ Some (value.Bool false)
-  not_in_user =
-      expr_layer there (expr.Apply op.Eq (read (codes "mode") ∷ mode_of (codes "User") ∷ []))
-      ∙ simp (
-        expr_layer there (expr.Register (codes "mode")),
-        expr_layer there (expr.Of (codes "Mode") (codes "User")),
-        outs-Member,
-        members_equal,
-      )
+  not_in_user = simp (expr_layer, outs-Member, members_equal)
 
   is_at_zero : value_of_expr there at_zero ≡ Some (value.Bool true)
-  is_at_zero =
-      expr_layer there (expr.Apply op.Eq (read (codes "pc") ∷ byte 0 ∷ []))
-      ∙ simp (
-        expr_layer there (expr.Register (codes "pc")),
-        expr_layer there (expr.Bits 8 0),
-        outs-Bits,
-        bits_equal,
-      )
+  is_at_zero = simp (expr_layer, outs-Bits, bits_equal)
 
   -- its phase is the handler
   pub image_phase : phase_of decls image ≡ Some (phase.Block (codes "handler"))
@@ -161,7 +146,8 @@ module _ (trap user kernel step : Stm) (pre post : Assertion) where
       by false false = refl
 
   -- its fragment has neither the count nor the code
-  no_count : (at : ℕ) → register_position decls (codes "count") ≡ Some at → owned.registers at ≡ None
+  no_count :
+      (at : ℕ) → register_position decls (codes "count") ≡ Some at → owned.registers at ≡ None
   no_count at e =
       let third : 2 ≡ at = ap (λ o. unwrap_or o 2) e in
       subst (λ k. owned.registers k ≡ None) third refl
@@ -181,13 +167,7 @@ module _ (trap user kernel step : Stm) (pre post : Assertion) where
         locals = (codes "i", value.Bits 8 i) ∷ [];
       } in
       let value_is : value_of_expr inner upper ≡ Some (value.Bool (nat_le 8 i)) =
-      expr_layer inner (expr.Apply op.Ule (byte 8 ∷ named (codes "i") ∷ []))
-      ∙ simp (
-        expr_layer inner (expr.Bits 8 8),
-        expr_layer inner (expr.Name (codes "i")),
-        outs-Bits,
-        fits,
-      ) in
+      simp (expr_layer, outs-Bits, fits) in
       ap is_true value_is
 
   -- all cells hold numbers that fit
@@ -203,7 +183,10 @@ module _ (trap user kernel step : Stm) (pre post : Assertion) where
   number_fits : (n : ℕ) → is_number 8 n ≡ true → IsNumber 8 n
   number_fits n e =
       let below : nat_lt n (2 ^ 8) ≡ true = (and_parts (is_width 8) (nat_lt n (2 ^ 8)) e).1 in
-      record { width = record { positive = omega arith; small = omega arith }; below = grind (arith, nat_tests) }
+      record {
+        width = record { positive = omega arith; small = omega arith };
+        below = grind (arith, nat_tests);
+      }
 
   -- a cell by its index
   cell_is : (i : ℕ) → cell_at image i ≡ slice_get image.cells i

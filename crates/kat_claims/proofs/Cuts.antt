@@ -1,7 +1,8 @@
 -- Runs over fewer events, and over more of them.
-use Rattle.std.proofs.Common.{arith, ◌≡◌, ◌≢◌, ◌∙◌, ℕ, ◌+◌, suc, true, false, List, [], ◌∷◌, ◌++◌, Some, refl, sym, ap, subst, if◌then◌else◌}
+use Rattle.std.proofs.Common.{arith, ◌≡◌, ◌≢◌, ◌∙◌, ℕ, ◌+◌, suc, true, false, List, [], ◌∷◌, ◌++◌, length, Some, refl, sym, ap, subst, if◌then◌else◌}
 use Rattle.std.specs.Prelude.{IsTrue, ◌≤◌, ◌<◌}
 use Rattle.std.specs.List.{AllByRecursion}
+use Rattle.kat_value.specs.declared.value.Value.{Value}
 use Rattle.kat_value.specs.declared.value.Value.TheVariants.{Bool as Truth}
 use Rattle.kat_ast.specs.Spec.{Spec}
 use Rattle.kat_ast.specs.declared.decl.Block.{Block}
@@ -31,18 +32,15 @@ module _ (decls : List DeclForm) where
   pub same_look : (s : MachineState) → LooksAs decls s s
   same_look s = record { phase = refl; kept = refl; code = λ there. there }
 
-  -- lists of states that look alike, place by place
-  abbrev Alike : List MachineState → List MachineState → Type 0
-  Alike [] [] = Unit {0}
-  Alike [] (t ∷ ts) = ⊥
-  Alike (s ∷ ss) [] = ⊥
-  Alike (s ∷ ss) (t ∷ ts) = LooksAs decls s t × Alike ss ts
-
-  -- the first states of a list look so
+  -- the first states of a list look as those of another
   abbrev pub Begins : List MachineState → List MachineState → Type 0
   Begins [] ts = Unit {0}
   Begins (s ∷ ss) [] = ⊥
   Begins (s ∷ ss) (t ∷ ts) = LooksAs decls s t × Begins ss ts
+
+  -- all of them do
+  abbrev Alike : List MachineState → List MachineState → Type 0
+  Alike ss ts = Begins ss ts × (length ss ≡ length ts)
 
   -- the place in the longer list that a place of the shorter one has
   record Found (before : List MachineState) (s : MachineState) (after long : List MachineState) :
@@ -64,7 +62,7 @@ module _ (decls : List DeclForm) where
     here = t;
     later = ts;
     is = refl;
-    alike = tt;
+    alike = (tt, refl);
     looks = begins.0;
     begins = begins.1;
   }
@@ -76,7 +74,7 @@ module _ (decls : List DeclForm) where
         here = more.here;
         later = more.later;
         is = ap (λ l. t ∷ l) more.is;
-        alike = (begins.0, more.alike);
+        alike = ((begins.0, more.alike.0), ap suc more.alike.1);
         looks = more.looks;
         begins = more.begins;
       }
@@ -131,58 +129,62 @@ module _ (decls : List DeclForm) where
         | false ↦ (refl, begins.0)
       ])
 
+  -- the change of a block is true of kept values
+  abbrev IsTrueOf : Block → List Value → List Value → Type 0
+  IsTrueOf block before after =
+      value_of_expr (record { decls = decls; reads = BothEnds before after; locals = [] })
+      block.change ≡ Some (Truth true)
+
   -- a block's run
   block_cut :
       (block : Block) (s t : MachineState) (x y : Exit) → LooksAs decls s t → ExitCut x y →
       IsBlockRun decls block t y → IsBlockRun decls block s x
   block_cut block s t (Left y c) (Left z d) looks cut run = (
     subst (λ n. n ≤ block.within) (sym cut.0) run.0,
-    subst (λ kept. value_of_expr (record { decls = decls; reads = BothEnds kept (kept_of decls y); locals = [] })
-        block.change ≡ Some (Truth true)) (sym looks.kept)
-        (subst (λ kept. value_of_expr (record { decls = decls; reads = BothEnds (kept_of decls t) kept; locals = [] })
-        block.change ≡ Some (Truth true)) (sym cut.1.kept) run.1),
+    subst (λ kept. IsTrueOf block kept (kept_of decls y)) (sym looks.kept)
+        (subst (IsTrueOf block (kept_of decls t)) (sym cut.1.kept) run.1),
   )
   block_cut block s t (Left y c) (Stays d) looks cut run = absurd cut
   block_cut block s t (Stays c) (Left z d) looks cut run =
       let less : d ≤ block.within = run.0 in omega (arith, cut, less)
   block_cut block s t (Stays c) (Stays d) looks cut run = omega (arith, cut, run)
 
+  -- what goes by looks holds of the first states where it holds of all
+  carried :
+      (P : MachineState → Type 0) → ((s t : MachineState) → LooksAs decls s t → P t → P s) →
+      (short long : List MachineState) → Begins short long → AllByRecursion P long →
+      AllByRecursion P short
+  carried P each [] long begins all = tt
+  carried P each (s ∷ short) [] begins all = absurd begins
+  carried P each (s ∷ short) (t ∷ long) begins all =
+      (each s t begins.0 all.0, carried P each short long begins.1 all.1)
+
   -- boundaries that are inside
   abbrev Inside : MachineState → Type 0
   Inside state = IsTrue (is_inside (phase_of decls state))
 
-  inside_cut :
-      (before inside : List MachineState) → Alike before inside →
-      AllByRecursion Inside inside → AllByRecursion Inside before
-  inside_cut [] [] alike all = tt
-  inside_cut [] (t ∷ ts) alike all = absurd alike
-  inside_cut (s ∷ before) [] alike all = absurd alike
-  inside_cut (s ∷ before) (t ∷ ts) alike all = (
-    subst (λ p. IsTrue (is_inside p)) (sym alike.0.phase) all.0,
-    inside_cut before ts alike.1 all.1,
-  )
+  inside_looks : (s t : MachineState) → LooksAs decls s t → Inside t → Inside s
+  inside_looks s t looks inside = subst (λ p. IsTrue (is_inside p)) (sym looks.phase) inside
 
   -- behind a block
   within_cut :
       (before earlier : List MachineState) (entry : MachineState) (inside : List MachineState) →
       Alike before (earlier ++ entry ∷ inside) → IsBlock decls entry →
       AllByRecursion Inside inside → IsWithinBlock decls before
-  within_cut [] [] entry inside alike is all = absurd alike
-  within_cut [] (e ∷ earlier) entry inside alike is all = absurd alike
-  within_cut (s ∷ before) [] entry inside alike is all =
-      ([], s, before, refl, (is.0, alike.0.phase ∙ is.1), inside_cut before inside alike.1 all)
-  within_cut (s ∷ before) (e ∷ earlier) entry inside alike is all =
-      let more = within_cut before earlier entry inside alike.1 is all in
+  within_cut [] [] entry inside (begins, same) is all = absurd (omega (arith, same))
+  within_cut [] (e ∷ earlier) entry inside (begins, same) is all = absurd (omega (arith, same))
+  within_cut (s ∷ before) [] entry inside (begins, same) is all = (
+    [],
+    s,
+    before,
+    refl,
+    (is.0, begins.0.phase ∙ is.1),
+    carried Inside inside_looks before inside begins.1 all,
+  )
+  within_cut (s ∷ before) (e ∷ earlier) entry inside (begins, same) is all =
+      let shorter : length before ≡ length (earlier ++ entry ∷ inside) = omega (arith, same) in
+      let more = within_cut before earlier entry inside (begins.1, shorter) is all in
       (s ∷ more.0, more.1, more.2, ap (λ l. s ∷ l) more.3, more.4, more.5)
-
-  -- code cells
-  code_cut :
-      (short long : List MachineState) → Begins short long →
-      AllByRecursion (IsCodeThere decls) long → AllByRecursion (IsCodeThere decls) short
-  code_cut [] long begins all = tt
-  code_cut (s ∷ short) [] begins all = absurd begins
-  code_cut (s ∷ short) (t ∷ long) begins all =
-      (begins.0.code all.0, code_cut short long begins.1 all.1)
 
   -- a run is the beginning of another, as far as security sees
   pub record IsCut (long short : Run) : Type 0 where
@@ -190,31 +192,38 @@ module _ (decls : List DeclForm) where
     pub ends : IsNoFailure long.end → IsNoFailure short.end
 
   -- it does what a run of a secure specification does
-  pub secure_cut : (long short : Run) → IsCut long short → IsSecureRun decls long → IsSecureRun decls short
+  pub secure_cut :
+      (long short : Run) → IsCut long short → IsSecureRun decls long → IsSecureRun decls short
   secure_cut long short cut secure = record {
     never_fails = cut.ends secure.never_fails;
     untrusted_keeps = λ before after s next is.
-        let at = found before s (next ∷ after) long.boundaries
-        (subst (λ l. Begins l long.boundaries) is cut.begins) in
-        untrusted_cut s next at.here at.later after at.earlier long.boundaries at.looks at.begins at.is
-        secure.untrusted_keeps;
+        let at = place before s (next ∷ after) is in
+        untrusted_cut s next at.here at.later after at.earlier long.boundaries at.looks at.begins
+        at.is secure.untrusted_keeps;
     blocks_end = λ before after s is x phase_is.
-        let at = found before s after long.boundaries
-        (subst (λ l. Begins l long.boundaries) is cut.begins) in
-        let ran = secure.blocks_end at.earlier at.later at.here at.is x (sym at.looks.phase ∙ phase_is) in (
+        let at = place before s after is in
+        let ran = secure.blocks_end at.earlier at.later at.here at.is x
+        (sym at.looks.phase ∙ phase_is) in (
           ran.0,
           ran.1,
           block_cut ran.0 s at.here (exit_of decls after) (exit_of decls at.later) at.looks
               (exits_cut after at.later at.begins) ran.2,
         );
     inside_behind_block = λ before after s is inside.
-        let at = found before s after long.boundaries
-        (subst (λ l. Begins l long.boundaries) is cut.begins) in
+        let at = place before s after is in
         let within = secure.inside_behind_block at.earlier at.later at.here at.is
         (subst (λ p. IsTrue (is_inside p)) at.looks.phase inside) in
-        within_cut before within.0 within.1 within.2 (subst (Alike before) within.3 at.alike) within.4 within.5;
-    code_stays = code_cut short.boundaries long.boundaries cut.begins secure.code_stays;
+        within_cut before within.0 within.1 within.2 (subst (Alike before) within.3 at.alike)
+        within.4 within.5;
+    code_stays = carried (IsCodeThere decls) (λ s t looks. looks.code) short.boundaries
+        long.boundaries cut.begins secure.code_stays;
   }
+    where
+      place :
+          (before : List MachineState) (s : MachineState) (after : List MachineState) →
+          short.boundaries ≡ before ++ s ∷ after → Found before s after long.boundaries
+      place before s after is = found before s after long.boundaries
+          (subst (λ l. Begins l long.boundaries) is cut.begins)
 
 -- the first boundary of a run over these events looks as its start
 abbrev pub BeginsAt : Spec → Run → MachineState → Type 0

@@ -3,7 +3,7 @@ use Rattle.std.proofs.Common.{arith, ◌≡◌, ◌∙◌, ℕ, zero, suc, ◌+�
 use Rattle.std.specs.Option.{option_or}
 use Rattle.std.specs.List.{AllByRecursion}
 use Rattle.std.specs.Str.{bytes_eq}
-use Rattle.std.proofs.lemmas.Bool.{and_parts, eqb-true, false≢true}
+use Rattle.std.proofs.lemmas.Bool.{and_parts, eqb-true, false_from_ne_true, false≢true}
 use Rattle.std.proofs.lemmas.Slice.Eq.{bytes_eq-Decides}
 use Rattle.kat_ast.specs.declared.type_name.Param.{Param}
 use Rattle.kat_ast.specs.declared.type_name.TypeName.{TypeName}
@@ -203,13 +203,11 @@ means_register all k p x type kind decls r rest zero one there same before plain
     ∙ subst (λ b. IsPlain (chosen b all k p type kind decls r)) here plain
 means_register all k p x type kind decls r rest (suc q) one there same before plain =
     rest q one there same (λ j less. before (suc j) (omega (arith, less)))
-    (subst (λ b. IsPlain (chosen b all k p type kind decls r)) (other (bytes_eq x r) refl) plain)
+    (subst (λ b. IsPlain (chosen b all k p type kind decls r)) other plain)
   where
-    other : (b : Bool) → bytes_eq x r ≡ b → b ≡ false
-    other true e =
-        absurd (false≢true (sym (before 0 (omega arith))
+    other : bytes_eq x r ≡ false
+    other = false_from_ne_true (bytes_eq x r) (λ e. false≢true (sym (before 0 (omega arith))
         ∙ (bytes_eq-Decides r x).1 (sym ((bytes_eq-Decides x r).0 e))))
-    other false e = refl
 
 pub means_first :
     (all : List DeclForm) (k p : ℕ) (decls : List DeclForm) (r : Name) →
