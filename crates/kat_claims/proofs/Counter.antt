@@ -5,10 +5,9 @@ use Rattle.std.specs.List.{AllByRecursion}
 use Rattle.std.proofs.lemmas.Bool.{and_parts}
 use Rattle.std.proofs.lemmas.Bool.Decides.{nat_tests}
 use Rattle.std.proofs.lemmas.Option.{none-some, slice_get-get_or, slice_get_past, slice_get_within}
-use Rattle.kat_value.specs.declared.types.Ty.{Ty}
 use Rattle.kat_value.specs.declared.types.Ty.TheVariants as ty
 use Rattle.kat_value.specs.declared.types.TypeDecl.{TypeDecl}
-use Rattle.kat_value.specs.declared.value.Value.{Value, fold-roll-Value, out-Value}
+use Rattle.kat_value.specs.declared.value.Value.{Value, fold-roll-Value, map-Value, out-Value, roll-Value}
 use Rattle.kat_value.specs.declared.value.Value.TheOpen as layer
 use Rattle.kat_value.specs.declared.value.Value.TheVariants as value
 use Rattle.kat_value.specs.declared.value.Value.TheVariants.{rolls-Bits, rolls-Member}
@@ -33,41 +32,40 @@ use Rattle.kat_claims.specs.Counter.{at_zero, byte, counter, entry, holding, ima
 use Rattle.kat_claims.specs.Security.{CounterBoots}
 use Rattle.kat_claims.proofs.Joins.{split_place, taken_off, with_nothing, without}
 use Rattle.kat_claims.proofs.Layers.{closed}
-use Rattle.kat_claims.proofs.Steps.{expr_layer}
+use Rattle.kat_claims.proofs.Steps.{expr_layer, typed_by_layer}
 
--- numbers and members are of their types
+-- numbers are of their types
 bits_have_type :
     (types : List TypeDecl) (w n v : ℕ) →
     has_type types (value.Bits w n) (ty.Bits v) ≡ (w == v) && is_number w n
-bits_have_type types w n v =
-    ap (λ (x : Value). has_type types x (ty.Bits v)) (sym (rolls-Bits w n))
-    ∙ ap (λ (test : Ty → Bool). test (ty.Bits v))
-    (fold-roll-Value (Ty → Bool) (layer_has_type types) (layer.Bits w n))
+bits_have_type types w n v = typed_by_layer types (layer.Bits w n) _ (ty.Bits v) (rolls-Bits w n)
 
+-- members are of theirs
 member_has_type :
     (types : List TypeDecl) (p i q : ℕ) →
     has_type types (value.Member p i) (ty.Enum q)
     ≡ layer_has_type types (layer.Member p i) (ty.Enum q)
 member_has_type types p i q =
-    ap (λ (x : Value). has_type types x (ty.Enum q)) (sym (rolls-Member p i))
-    ∙ ap (λ (test : Ty → Bool). test (ty.Enum q))
-    (fold-roll-Value (Ty → Bool) (layer_has_type types) (layer.Member p i))
+    typed_by_layer types (layer.Member p i) _ (ty.Enum q) (rolls-Member p i)
 
--- equality of numbers and of members is tested on them
+-- equality of values is tested on their layers
+equal_by_layer :
+    (one : layer.Value-F Value) (x y : Value) → roll-Value one ≡ x →
+    value_eq x y
+    ≡ same_layer (map-Value Value (Value → Bool) value_eq one) (out-Value y)
+equal_by_layer one x y is =
+    ap (λ (v : Value). value_eq v y) (sym is)
+    ∙ ap (λ (test : Value → Bool). test y)
+    (fold-roll-Value (Value → Bool) (λ one x. same_layer one (out-Value x)) one)
+
+-- of numbers, and of members
 bits_equal : (w m v n : ℕ) → value_eq (value.Bits w m) (value.Bits v n) ≡ (w == v) && (m == n)
-bits_equal w m v n =
-    ap (λ (x : Value). value_eq x (value.Bits v n)) (sym (rolls-Bits w m))
-    ∙ ap (λ (test : Value → Bool). test (value.Bits v n))
-    (fold-roll-Value (Value → Bool) (λ one x. same_layer one (out-Value x)) (layer.Bits w m))
-    ∙ simp (outs-Bits)
+bits_equal w m v n = equal_by_layer (layer.Bits w m) _ _ (rolls-Bits w m) ∙ simp outs-Bits
 
 members_equal :
     (p i q j : ℕ) → value_eq (value.Member p i) (value.Member q j) ≡ (p == q) && (i == j)
 members_equal p i q j =
-    ap (λ (x : Value). value_eq x (value.Member q j)) (sym (rolls-Member p i))
-    ∙ ap (λ (test : Value → Bool). test (value.Member q j))
-    (fold-roll-Value (Value → Bool) (λ one x. same_layer one (out-Value x)) (layer.Member p i))
-    ∙ simp (outs-Member)
+    equal_by_layer (layer.Member p i) _ _ (rolls-Member p i) ∙ simp outs-Member
 
 module _ (trap user kernel step : Stm) (pre post : Assertion) where
   abbrev decls : List DeclForm
@@ -276,8 +274,8 @@ module _ (trap user kernel step : Stm) (pre post : Assertion) where
           one_register 1 first_byte,
           region,
           taken_off (without 0 owned) 1 first_byte refl,
-          closed predicates (assertion.Register (codes "pc") (byte 0)) env (one_register 1 first_byte)
-              (1, first_byte, refl, expr_layer env (expr.Bits 8 0), byte_typed, refl),
+          closed predicates (assertion.Register (codes "pc") (byte 0)) env
+              (one_register 1 first_byte) (1, first_byte, refl, expr_layer env (expr.Bits 8 0), byte_typed, refl),
           (
             region,
             nothing,

@@ -53,6 +53,7 @@ module _ (decls : List DeclForm) where
     looks : LooksAs decls s here
     begins : Begins after later
 
+  -- each place has one
   found :
       (before : List MachineState) (s : MachineState) (after long : List MachineState) →
       Begins (before ++ s ∷ after) long → Found before s after long
@@ -81,7 +82,7 @@ module _ (decls : List DeclForm) where
 
   -- untrusted cycles
   untrusted_cut :
-      (s next t : MachineState) (later rest : List MachineState) (earlier long : List MachineState) →
+      (s next t : MachineState) (later rest earlier long : List MachineState) →
       LooksAs decls s t → Begins (next ∷ rest) later → long ≡ earlier ++ t ∷ later →
       EachStep (KeepsWhereUntrusted decls) long → KeepsWhereUntrusted decls s next
   untrusted_cut s next t [] rest earlier long looks begins is each at = absurd begins
@@ -125,7 +126,7 @@ module _ (decls : List DeclForm) where
       (elim (is_inside (phase_of decls t)) as
       (λ b. ExitCut (if b then one_later (exit_of decls after) else Left s 1)
       (if b then one_later (exit_of decls later) else Left t 1)) [
-        | true ↦ later_cut (exit_of decls after) (exit_of decls later) (exits_cut after later begins.1)
+        | true ↦ later_cut _ _ (exits_cut after later begins.1)
         | false ↦ (refl, begins.0)
       ])
 
@@ -255,6 +256,7 @@ module _ (spec : Spec) (n : ℕ) (more : List Event)
   cut_at k s (OutsideWrite poke ∷ events) =
       cut_at k (state_behind s (poked spec poke s)) events
 
+  -- so what a longer run does that is secure, the shorter one does
   secure_before :
       (start : MachineState) (events : List Event) →
       IsSecureRun spec.decls (run_of spec n start (events ++ more)) →
@@ -283,8 +285,10 @@ ended_from spec n k s (Cycle ∷ events) more ends =
     by : (c : CycleOutcome) →
         ((next : MachineState) → (run_from spec n (k + 1) next events).end ≢ Ended →
         run_from spec n (k + 1) next (events ++ more) ≡ run_from spec n (k + 1) next events) →
-        (with_boundary s (after_cycle (k + 1) c (λ next. run_from spec n (k + 1) next events))).end ≢ Ended →
-        with_boundary s (after_cycle (k + 1) c (λ next. run_from spec n (k + 1) next (events ++ more)))
+        (with_boundary s (after_cycle (k + 1) c (λ next. run_from spec n (k + 1) next events))).end
+        ≢ Ended →
+        with_boundary s (after_cycle (k + 1) c
+        (λ next. run_from spec n (k + 1) next (events ++ more)))
         ≡ with_boundary s (after_cycle (k + 1) c (λ next. run_from spec n (k + 1) next events))
     by (Completed p) next ends = ap (with_boundary s) (next p.state ends)
     by OutOfCalls next ends = refl

@@ -123,7 +123,7 @@ module _ (decls : List DeclForm) (predicates : Predicates)
   layer_holds (Exists x type body) reads locals f (v, typed, h) =
       body.1 reads ((x, v) ∷ locals) f h
   layer_holds (Predicate x args) reads locals f (values, are, h) = premise x values f h
-  layer_holds (Region x args) reads locals f (values, are, (region, found, names, binds, h)) = h.fits
+  layer_holds (Region x args) reads locals f (values, are, (region, found, names, bind, h)) = h.fits
 
   -- what holds an assertion is a fragment, the predicates being of such
   pub holder : (a : Assertion) → Holder a

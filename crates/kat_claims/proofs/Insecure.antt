@@ -48,6 +48,7 @@ module _ (kind : RegisterKind) (cases : List When) (otherwise : Phase) (change :
     keeps : KeepsWhereUntrusted decls t u
     ends : IsBlockRun decls own start (exit_of decls (t ∷ u ∷ []))
 
+  -- it does so, by the run over two cycles
   does :
       (t u : MachineState) → cycle_of (as_spec decls) 1 start ≡ leaves t 0 →
       cycle_of (as_spec decls) 1 t ≡ leaves u 0 → IsSecure (as_spec decls) → Does t u
@@ -70,19 +71,21 @@ module _ (kind : RegisterKind) (cases : List When) (otherwise : Phase) (change :
   abbrev cycle : Stm → MachineState → CycleOutcome
   cycle body s = cycle_of (as_spec (of_block kind cases otherwise change body)) 1 s
 
-  -- what is done by a step that hands the first truth on, and by those that write a truth
+  -- a step that hands the first truth on
   shifts_once : (a b : Bool) → cycle shifts (state_of a b) ≡ leaves (state_of false a) 0
   shifts_once a b =
       let decls = of_block kind cases otherwise change shifts in
       ap (ends_as decls (state_of a b) 0) (stm_layer decls (call_of decls 0) _)
       ∙ simp (stm_layer, expr_layer, truth_has_type)
 
+  -- so a machine with the first step, where it is secure, does that of two cycles
   shifting :
       IsSecure (as_spec (of_block kind cases otherwise change shifts)) →
       Does kind cases otherwise change shifts (state_of false true) (state_of false false)
   shifting =
       does kind cases otherwise change shifts _ _ (shifts_once true false) (shifts_once false true)
 
+  -- steps that write one of the truths
   first_once :
       (a b : Bool) → cycle (write mode falsehood) (state_of a b) ≡ leaves (state_of false b) 0
   first_once a b =
@@ -155,8 +158,8 @@ exceeding_breaks secure =
     let done = does register.Protected [] phase.Untrusted not_set (write guarded yes) _ _
     (second_once register.Protected [] phase.Untrusted not_set true false)
     (second_once register.Protected [] phase.Untrusted not_set true true) secure in
-    let there = block_phase register.Protected [] phase.Untrusted not_set (write guarded yes) true in
-    let left = simp there at done.ends in
+    let left = simp (block_phase register.Protected [] phase.Untrusted not_set
+    (write guarded yes) true) at done.ends in
     differ (sym exceeding_change ∙ left.1)
 
 -- no state boots where every phase is untrusted

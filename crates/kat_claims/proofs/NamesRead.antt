@@ -54,13 +54,14 @@ module _ (decls : List DeclForm) (reads : Reads) where
     abbrev Agree : Expr → Type 0
     Agree e = AgreeOn l m (names_of_expr e)
 
+    -- then they do on those of each of some
     each : (es : List Expr) → AgreeOn l m (names_of_exprs es) → AllByRecursion Agree es
     each [] agree = tt
     each (e ∷ es) agree =
         let split = both l m (names_of_expr e) (names_of_exprs es) agree in
         (split.0, each es split.1)
 
-    -- then its layer reads alike
+    -- and a layer reads alike
     opened_names :
         (layer : Expr-F Expr) →
         AgreeOn l m (expr_names (map-Expr Expr (List Name) names_of_expr layer)) →
@@ -72,14 +73,16 @@ module _ (decls : List DeclForm) (reads : Reads) where
     opened_names (Get r f part) agree = agree
     opened_names _ agree = refl
 
-    agreed : (layer : Expr-F Expr) → Agree (roll-Expr layer) → ReadsAlike (among l) (among m) Agree layer
+    agreed :
+        (layer : Expr-F Expr) → Agree (roll-Expr layer) → ReadsAlike (among l) (among m) Agree layer
     agreed layer agree =
         opened_names layer (subst (AgreeOn l m) (fold-roll-Expr (List Name) expr_names layer) agree)
 
-    -- so an expression has one value, and so have some
+    -- so an expression has one value
     value_same : (e : Expr) → Agree e → value_of_expr (among l) e ≡ value_of_expr (among m) e
     value_same = same_value decls reads reads l m Agree agreed
 
+    -- and so have some
     values_same :
         (es : List Expr) → AgreeOn l m (names_of_exprs es) →
         values_of_exprs (among l) es ≡ values_of_exprs (among m) es
@@ -106,7 +109,8 @@ module _ (decls : List DeclForm) (reads : Reads) where
         HoldsAll predicates Assertion (HoldsBy predicates) (pieces parts) (among m) f
     all_say [] l m f agree h = h
     all_say (part ∷ parts) l m f agree (g, rest, join, first, others) =
-        let split = both l m (names_of_assertion part.0) (joined (map names_of_assertion (pieces parts))) agree in
+        let split = both l m (names_of_assertion part.0)
+        (joined (map names_of_assertion (pieces parts))) agree in
         (g, rest, join, part.1 l m g split.0 first, all_say parts l m rest split.1 others)
 
     -- one of two

@@ -1,5 +1,5 @@
 -- A write from outside leaves the phase, the kept values and the code of a typed specification.
-use Rattle.std.proofs.Common.{arith, ◌≡◌, ◌∙◌, ℕ, ◌+◌, ◌-◌, Bool, true, false, not, ◌&&◌, List, [], ◌∷◌, ◌++◌, filter, get_or, map, slice_get, Option, Some, None, refl, sym, ap, subst, if◌then◌else◌}
+use Rattle.std.proofs.Common.{arith, ◌≡◌, ◌∙◌, ℕ, suc, ◌+◌, ◌-◌, Bool, true, false, not, ◌&&◌, List, [], ◌∷◌, ◌++◌, filter, get_or, map, slice_get, Option, Some, None, refl, sym, ap, subst, if◌then◌else◌}
 use Rattle.std.specs.Prelude.{◌==◌, nat_le, nat_lt}
 use Rattle.std.specs.Option.{option_map}
 use Rattle.std.specs.List.{AllByRecursion, cons_option, filter_map, list_any, range_with_len}
@@ -28,7 +28,7 @@ use Rattle.kat_syntax.specs.TypingExpressions.{is_protected_kind}
 use Rattle.kat_claims.specs.Outside.{IsCodeCell, OutsideWritesKeep}
 use Rattle.kat_claims.proofs.OutsideCells.{IsOutsideAlone, alone_from, code_alone, code_there, unprotected}
 use Rattle.kat_claims.proofs.OutsidePhase.{same_phase}
-use Rattle.kat_claims.proofs.OutsideRegisters.{AreOthers, IsOutsideAt, means_first, protected_differ}
+use Rattle.kat_claims.proofs.OutsideRegisters.{IsOutsideAt, means_first, not_both, same_register}
 use Rattle.kat_claims.proofs.OutsidePlaces.{IsPlaceOf, placed}
 
 -- what a target is of a typed specification: an outside register, or a cell of outside cells alone
@@ -41,6 +41,7 @@ within_place : (lo hi offset : ℕ) → nat_lt offset (hi - lo) ≡ true →
     (nat_le lo (lo + offset) && nat_lt (lo + offset) hi) ≡ true
 within_place lo hi offset less = grind (arith, nat_tests)
 
+-- the target in a place is such
 target_is :
     (spec : Spec) → IsTyped spec → (offset : ℕ) (place : OutsidePlace) (target : Target) →
     IsPlaceOf 0 spec.decls place → target_in spec.decls offset place ≡ Some target →
@@ -103,13 +104,13 @@ all_both P (x ∷ xs) ys first second = (first.0, all_both P xs ys first.1 secon
 -- the protected registers among some
 registers_kept :
     (P : KeptPlace → Type 0) (registers : List RegisterDecl) →
-    AllByRecursion
-    (λ (one : RegisterDecl). is_protected_kind one.kind ≡ true → P (KeptRegister one.name))
-    registers →
+    ((at : ℕ) (one : RegisterDecl) → slice_get registers at ≡ Some one →
+    is_protected_kind one.kind ≡ true → P (KeptRegister one.name)) →
     AllByRecursion P (filter_map kept_register registers)
 registers_kept P [] each = tt
 registers_kept P (one ∷ registers) each =
-    by (is_protected_kind one.kind) each.0 (registers_kept P registers each.1)
+    by (is_protected_kind one.kind) (each 0 one refl)
+    (registers_kept P registers (λ at. each (suc at)))
   where
     by : (b : Bool) → (b ≡ true → P (KeptRegister one.name)) →
         AllByRecursion P (filter_map kept_register registers) →
@@ -149,6 +150,7 @@ record Stays (decls : List DeclForm) (s t : MachineState) : Type 0 where
       slice_get t.registers p ≡ slice_get s.registers p
   cells : (i : ℕ) → (IsOutsideAlone i decls → ⊥) → cell_at t i ≡ cell_at s i
 
+-- a write changes no other place than that of its target
 others_stay :
     (decls : List DeclForm) (target : Target) (s t : MachineState) →
     IsOutsideTarget decls target → ChangesOnePlace target s t → Stays decls s t
@@ -178,18 +180,15 @@ module _ (spec : Spec) (typed : IsTyped spec) (s t : MachineState) (stays : Stay
 
   -- a protected register
   protected_same :
-      (registers : List RegisterDecl) →
-      ((p : ℕ) (out : IsOutsideAt (registers_of decls) p) → AreOthers out.register.name registers) →
-      AllByRecursion
-      (λ (one : RegisterDecl). is_protected_kind one.kind ≡ true →
-      register_value decls one.name t.registers ≡ register_value decls one.name s.registers)
-      registers
-  protected_same [] others = tt
-  protected_same (one ∷ registers) others = (
-    λ protected. value_same decls one.name t.registers s.registers (λ p is.
-        stays.registers p (λ out. (others p out).0 protected (named decls one.name p out is))),
-    protected_same registers (λ p out. (others p out).1),
-  )
+      (at : ℕ) (one : RegisterDecl) → slice_get (registers_of decls) at ≡ Some one →
+      is_protected_kind one.kind ≡ true →
+      register_value decls one.name t.registers ≡ register_value decls one.name s.registers
+  protected_same at one there protected =
+      value_same decls one.name t.registers s.registers (λ p is. stays.registers p (λ out.
+      let same = same_register decls 0 decls at p one out.register typed there out.there
+      (named decls one.name p out is) in
+      not_both out.register.kind
+      (ap (λ (r : RegisterDecl). is_protected_kind r.kind) (sym same) ∙ protected) out.outside))
 
   -- a protected cell
   cell_same : (i : ℕ) → list_any (protects i) (ranges_of decls) ≡ true → cell_at t i ≡ cell_at s i
@@ -205,8 +204,7 @@ module _ (spec : Spec) (typed : IsTyped spec) (s t : MachineState) (stays : Stay
       places_same decls t s (kept_places decls)
       (all_both IsSame (filter_map kept_register (registers_of decls))
       (kept_cells decls (memory_of decls))
-      (registers_kept IsSame (registers_of decls) (protected_same (registers_of decls) (λ p out.
-      protected_differ decls 0 decls p out.register typed out.there out.outside)))
+      (registers_kept IsSame (registers_of decls) protected_same)
       (cells_kept IsSame decls (memory_of decls)
       (λ i protected. ap (option_map (Number (cell_width decls))) (cell_same i protected))))
 

@@ -55,8 +55,7 @@ module _ (all : List DeclForm) (k : ℕ) (before after : List Value)
   abbrev IsFine : Expr → Type 0
   IsFine e = IsFaultless (known e)
 
-  -- expressions without faults side by side, as arguments of which types are wanted, as those of an
-  -- operation, and as fields
+  -- expressions side by side
   parts_clean :
       (at : ℕ) (parts : List Expr) → parts_faults at (map known parts) ≡ [] →
       AllByRecursion IsFine parts
@@ -64,6 +63,7 @@ module _ (all : List DeclForm) (k : ℕ) (before after : List Value)
   parts_clean at (part ∷ parts) e =
       ((at, no_first _ _ e), parts_clean (at + (known part).trees) parts (no_second _ _ e))
 
+  -- arguments of which types are wanted
   args_clean :
       (types : List (Option Ty)) (at : ℕ) (args : List Expr) →
       arg_faults types at (map known args) ≡ [] → AllByRecursion IsFine args
@@ -74,6 +74,7 @@ module _ (all : List DeclForm) (k : ℕ) (before after : List Value)
     args_clean types (at + (known arg).trees) args (no_second _ _ (no_second _ _ e)),
   )
 
+  -- arguments of an operation
   op_args_clean :
       (signature : Signature) (j : ℕ) (fixed : Option Ty) (at : ℕ) (args : List Expr) →
       op_arg_faults signature j fixed at (map known args) ≡ [] → AllByRecursion IsFine args
@@ -84,6 +85,7 @@ module _ (all : List DeclForm) (k : ℕ) (before after : List Value)
         (at + (known arg).trees) args (no_second _ _ (no_second _ _ e)),
   )
 
+  -- arguments of what a name has declared
   given_clean :
       (params : Option (List TypedName)) (at : ℕ) (args : List Expr) →
       given_faults params at (map known args) ≡ [] → AllByRecursion IsFine args
@@ -97,8 +99,8 @@ module _ (all : List DeclForm) (k : ℕ) (before after : List Value)
       ReadsAlike (env before) (env after) IsFine layer
   layer_alike (Make c payload) (at, e) = (at + 3, no_first _ _ (no_second _ _ e))
   layer_alike (Rec r fields) (at, e) =
-      given_clean (option_map (λ (seen : RecordSeen). seen.fields) (record_called around r)) at fields
-      (no_second _ _ e)
+      given_clean (option_map (λ (seen : RecordSeen). seen.fields) (record_called around r)) at
+      fields (no_second _ _ e)
   layer_alike (Register r) (at, e) =
       reads_same r (met (is_of_kind (λ kind. not (is_outside_kind kind))
       (meant a_register around r)) at NotHere (no_first _ _ e))

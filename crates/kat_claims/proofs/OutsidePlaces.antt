@@ -53,12 +53,13 @@ past_other k decl decls (OutsideRegister at width) same from =
 past_other k decl decls (OutsideCells lo hi) same lets = λ i here.
     or_right (lets_write i decl) (list_any (lets_write i) decls) (lets i here)
 
+-- each outside place is of a declaration
 pub placed :
     (k : ℕ) (decls : List DeclForm) (n : ℕ) (place : OutsidePlace) →
     slice_get (outside_from k decls) n ≡ Some place → IsPlaceOf k decls place
 placed k [] n place is = absurd (cc)
 placed k (d.Register x type register.Outside ∷ decls) zero place is =
-    subst (IsPlaceOf k (d.Register x type register.Outside ∷ decls)) (same_Some _ place is) (record {
+    subst (IsPlaceOf k (d.Register x type register.Outside ∷ decls)) (same_Some _ _ is) (record {
       further = 0;
       is = omega arith;
       there = record {

@@ -1,9 +1,9 @@
 -- A register that may be written from outside is neither kept nor read by the dispatch.
 use Rattle.std.proofs.Common.{arith, ◌≡◌, ◌∙◌, ℕ, zero, suc, ◌+◌, ◌<◌, Bool, true, false, not, List, [], ◌∷◌, ◌++◌, get_or, slice_get, Option, Some, None, refl, sym, ap, subst, if◌then◌else◌}
 use Rattle.std.specs.Option.{option_or}
-use Rattle.std.specs.List.{AllByRecursion}
 use Rattle.std.specs.Str.{bytes_eq}
 use Rattle.std.proofs.lemmas.Bool.{and_parts, eqb-true, false_from_ne_true, false≢true}
+use Rattle.std.proofs.lemmas.Option.{same_Some}
 use Rattle.std.proofs.lemmas.Slice.Eq.{bytes_eq-Decides}
 use Rattle.kat_ast.specs.declared.type_name.Param.{Param}
 use Rattle.kat_ast.specs.declared.type_name.TypeName.{TypeName}
@@ -44,87 +44,61 @@ declared_first all k x type kind clean =
     (no_first _ []
     (names_clean (record { decls = all; number = k }) (d.Register x type kind) clean))
 
--- registers of which none has this name
-abbrev HaveOthers : Name → List RegisterDecl → Type 0
-HaveOthers x registers =
-    AllByRecursion (λ (other : RegisterDecl). x ≡ other.name → ⊥) registers
+-- no later register has the name of one without faults
+later_other :
+    (all : List DeclForm) (x : Name) (k m : ℕ) (decls : List DeclForm) (at : ℕ)
+    (out : RegisterDecl) → k < m → stands_at k 2 (first_named (declared_by all) x) ≡ true →
+    AreClean all m decls → slice_get (registers_of decls) at ≡ Some out → x ≡ out.name → ⊥
+later_other all x k m [] at out less first clean there same = absurd (cc)
+later_other all x k m (d.Register y type kind ∷ decls) zero out less first clean there same =
+    let is : record { name = y; type = type; kind = kind } ≡ out = cc in
+    let here : stands_at m 2 (first_named (declared_by all) x) ≡ true =
+    subst (λ z. stands_at m 2 (first_named (declared_by all) z) ≡ true)
+    (ap (λ (one : RegisterDecl). one.name) is ∙ sym same)
+    (declared_first all m y type kind clean.0) in
+    let once = one_place (first_named (declared_by all) x) k m 2 first here in
+    omega (arith, once, less)
+later_other all x k m (d.Register y type kind ∷ decls) (suc at) out less first clean there same =
+    later_other all x k (m + 1) decls at out (omega (arith, less)) first clean.1 there same
+later_other all x k m (_ ∷ decls) at out less first clean there same =
+    later_other all x k (m + 1) decls at out (omega (arith, less)) first clean.1 there same
 
-others_differ :
-    (all : List DeclForm) (x : Name) (k m : ℕ) (decls : List DeclForm) → k < m →
-    stands_at k 2 (first_named (declared_by all) x) ≡ true → AreClean all m decls →
-    HaveOthers x (registers_of decls)
-others_differ all x k m [] less first clean = tt
-others_differ all x k m (d.Register y type kind ∷ decls) less first clean = (
-  λ e.
-      let here : stands_at m 2 (first_named (declared_by all) x) ≡ true =
-      subst (λ z. stands_at m 2 (first_named (declared_by all) z) ≡ true) (sym e)
-      (declared_first all m y type kind clean.0) in
-      let same = one_place (first_named (declared_by all) x) k m 2 first here in
-      omega (arith, same, less),
-  others_differ all x k (m + 1) decls (omega (arith, less)) first clean.1,
-)
-others_differ all x k m (_ ∷ decls) less first clean =
-    others_differ all x k (m + 1) decls (omega (arith, less)) first clean.1
+-- so registers of one name are one
+pub same_register :
+    (all : List DeclForm) (k : ℕ) (decls : List DeclForm) (p q : ℕ) (a b : RegisterDecl) →
+    AreClean all k decls → slice_get (registers_of decls) p ≡ Some a →
+    slice_get (registers_of decls) q ≡ Some b → a.name ≡ b.name → a ≡ b
+same_register all k [] p q a b clean first second same = absurd (cc)
+same_register all k (d.Register x type kind ∷ decls) p q a b clean first second same =
+    by p q first second (λ p q first second.
+    same_register all (k + 1) decls p q a b clean.1 first second same)
+  where
+    apart :
+        (one other : RegisterDecl) (at : ℕ) → Some (record { name = x; type = type; kind = kind })
+        ≡ Some one → slice_get (registers_of decls) at ≡ Some other → one.name ≡ other.name → ⊥
+    apart one other at is there e =
+        later_other all x k (k + 1) decls at other (omega arith)
+        (declared_first all k x type kind clean.0) clean.1 there
+        (ap (λ (r : RegisterDecl). r.name) (same_Some _ one is) ∙ e)
 
--- later registers than one have other names
-later_differ :
-    (all : List DeclForm) (k : ℕ) (x : Name) (type : TypeName) (kind : RegisterKind)
-    (decls : List DeclForm) → AreClean all k (d.Register x type kind ∷ decls) →
-    HaveOthers x (registers_of decls)
-later_differ all k x type kind decls clean =
-    others_differ all x k (k + 1) decls (omega arith) (declared_first all k x type kind clean.0)
-    clean.1
+    by :
+        (p q : ℕ) → slice_get (registers_of (d.Register x type kind ∷ decls)) p ≡ Some a →
+        slice_get (registers_of (d.Register x type kind ∷ decls)) q ≡ Some b →
+        ((p q : ℕ) → slice_get (registers_of decls) p ≡ Some a →
+        slice_get (registers_of decls) q ≡ Some b → a ≡ b) → a ≡ b
+    by zero zero first second rest = cc
+    by zero (suc q) first second rest = absurd (apart a b q first second same)
+    by (suc p) zero first second rest = absurd (apart b a p second first (sym same))
+    by (suc p) (suc q) first second rest = rest p q first second
+same_register all k (_ ∷ decls) p q a b clean first second same =
+    same_register all (k + 1) decls p q a b clean.1 first second same
 
--- what has another name than all registers has another one than each
-other_at :
-    (x : Name) (registers : List RegisterDecl) (at : ℕ) (out : RegisterDecl) →
-    HaveOthers x registers → slice_get registers at ≡ Some out → x ≡ out.name → ⊥
-other_at x [] at out others there same = absurd (cc)
-other_at x (r ∷ registers) zero out others there same =
-    let is : r ≡ out = cc in others.0 (same ∙ ap (λ (one : RegisterDecl). one.name) (sym is))
-other_at x (r ∷ registers) (suc at) out others there same =
-    other_at x registers at out others.1 there same
-
--- no protected register has the name of an outside one
-abbrev pub AreOthers : Name → List RegisterDecl → Type 0
-AreOthers x registers =
-    AllByRecursion
-    (λ (one : RegisterDecl). is_protected_kind one.kind ≡ true → one.name ≡ x → ⊥) registers
-
--- no register is both
-not_both :
+-- no register is both protected and outside
+pub not_both :
     (kind : RegisterKind) → is_protected_kind kind ≡ true → is_outside_kind kind ≡ true → ⊥
 not_both register.Plain protected outside = false≢true protected
 not_both register.Protected protected outside = false≢true outside
 not_both register.Outside protected outside = false≢true protected
-
--- others than one name, protected or not
-all_others :
-    (x : Name) (registers : List RegisterDecl) → HaveOthers x registers → AreOthers x registers
-all_others x [] others = tt
-all_others x (r ∷ registers) others =
-    (λ protected same. others.0 (sym same), all_others x registers others.1)
-
-pub protected_differ :
-    (all : List DeclForm) (k : ℕ) (decls : List DeclForm) (at : ℕ) (out : RegisterDecl) →
-    AreClean all k decls → slice_get (registers_of decls) at ≡ Some out →
-    is_outside_kind out.kind ≡ true → AreOthers out.name (registers_of decls)
-protected_differ all k [] at out clean there outside = tt
-protected_differ all k (d.Register x type kind ∷ decls) zero out clean there outside =
-    let is : record { name = x; type = type; kind = kind } ≡ out = cc in
-    let others = later_differ all k x type kind decls clean in (
-      λ protected same. not_both kind protected
-          (ap (λ (one : RegisterDecl). is_outside_kind one.kind) is ∙ outside),
-      all_others out.name (registers_of decls)
-          (subst (λ (one : RegisterDecl). HaveOthers one.name (registers_of decls)) is others),
-    )
-protected_differ all k (d.Register x type kind ∷ decls) (suc at) out clean there outside =
-    let others = later_differ all k x type kind decls clean in (
-      λ protected same. other_at x (registers_of decls) at out others there same,
-      protected_differ all (k + 1) decls at out clean.1 there outside,
-    )
-protected_differ all k (_ ∷ decls) at out clean there outside =
-    protected_differ all (k + 1) decls at out clean.1 there outside
 
 -- a name before other declared ones that is no register
 passed :

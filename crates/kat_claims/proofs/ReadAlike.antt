@@ -27,12 +27,14 @@ ReadsAlike first second Alike (Get r f part) = Alike part
 ReadsAlike first second Alike leaf = value_of_layer first leaf ≡ value_of_layer second leaf
 
 module _ (decls : List DeclForm) (ours theirs : Reads) (l m : Locals) (Alike : Expr → Type 0) where
+  -- the two environments
   abbrev first : Environment
   first = record { decls = decls; reads = ours; locals = l }
 
   abbrev second : Environment
   second = record { decls = decls; reads = theirs; locals = m }
 
+  -- what reads alike has one value
   abbrev Same : Expr → Type 0
   Same e = Alike e → value_of_expr first e ≡ value_of_expr second e
 
@@ -52,6 +54,7 @@ module _ (decls : List DeclForm) (ours theirs : Reads) (l m : Locals) (Alike : E
       ∙ ap (λ all. option_and_then (λ v. option_map (λ vs. v ∷ vs) all) (value_of_expr second e))
       rest
 
+  -- parts of a layer
   all_same :
       (es : List Part) → AllByRecursion Alike (exprs es) →
       values_of_exprs first (exprs es) ≡ values_of_exprs second (exprs es)
@@ -63,6 +66,7 @@ module _ (decls : List DeclForm) (ours theirs : Reads) (l m : Locals) (Alike : E
   LayerSame : Expr-F Expr → Type 0
   LayerSame y = ReadsAlike first second Alike y → value_of_layer first y ≡ value_of_layer second y
 
+  -- its parts have one value, and so it has
   layer_same : (y : Expr-F Part) → LayerSame (map-Expr Part Expr (λ e. e.0) y)
   unfolding LayerSame
   layer_same (Make c payload) alike =

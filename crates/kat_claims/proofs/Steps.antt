@@ -3,7 +3,7 @@ use Rattle.std.proofs.Common.{◌≡◌, ◌∙◌, ℕ, Bool, true, List, [], �
 use Rattle.kat_value.specs.declared.types.Ty.{Ty}
 use Rattle.kat_value.specs.declared.types.Ty.TheVariants as ty
 use Rattle.kat_value.specs.declared.types.TypeDecl.{TypeDecl}
-use Rattle.kat_value.specs.declared.value.Value.{Value, fold-roll-Value}
+use Rattle.kat_value.specs.declared.value.Value.{Value, fold-roll-Value, map-Value, roll-Value}
 use Rattle.kat_value.specs.declared.value.Value.TheOpen as layer
 use Rattle.kat_value.specs.declared.value.Value.TheVariants as value
 use Rattle.kat_value.specs.declared.value.Value.TheVariants.{rolls-Bool}
@@ -61,13 +61,19 @@ ends_as decls state left part =
 abbrev pub leaves : MachineState → ℕ → CycleOutcome
 leaves state left = Completed (record { state = state; left = left; stores = [] })
 
+-- whether a value is of a type goes by its layer
+pub typed_by_layer :
+    (types : List TypeDecl) (one : layer.Value-F Value) (x : Value) (t : Ty) → roll-Value one ≡ x →
+    has_type types x t ≡ layer_has_type types (map-Value Value (Ty → Bool) (has_type types) one) t
+typed_by_layer types one x t is =
+    ap (λ (v : Value). has_type types v t) (sym is)
+    ∙ ap (λ (test : Ty → Bool). test t)
+    (fold-roll-Value (Ty → Bool) (layer_has_type types) one)
+
 -- truths are of their type
 pub truth_has_type :
     (types : List TypeDecl) (b : Bool) → has_type types (value.Bool b) ty.Bool ≡ true
-truth_has_type types b =
-    ap (λ (v : Value). has_type types v ty.Bool) (sym (rolls-Bool b))
-    ∙ ap (λ (test : Ty → Bool). test ty.Bool)
-    (fold-roll-Value (Ty → Bool) (layer_has_type types) (layer.Bool b))
+truth_has_type types b = typed_by_layer types (layer.Bool b) _ ty.Bool (rolls-Bool b)
 
 -- the fragment of no place has no kept place
 without_all :
