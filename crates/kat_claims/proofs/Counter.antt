@@ -2,7 +2,7 @@
 use Rattle.std.proofs.Common.{arith, ◌≡◌, ◌∙◌, ℕ, zero, suc, ◌-◌, Bool, true, false, List, [], ◌∷◌, Option, Some, None, refl, sym, ap, subst, slice_get, if◌then◌else◌, unwrap_or}
 use Rattle.std.specs.Prelude.{IsTrue, IsSome, nat_le, nat_lt, ◌==◌, ◌&&◌, ◌||◌, ◌<◌, ◌≤◌, ◌^◌, codes}
 use Rattle.std.specs.List.{AllByRecursion}
-use Rattle.std.proofs.lemmas.Bool.{and_parts}
+use Rattle.std.proofs.lemmas.Bool.{and_parts, cond_both}
 use Rattle.std.proofs.lemmas.Bool.Decides.{nat_tests}
 use Rattle.std.proofs.lemmas.Option.{none-some, slice_get-get_or, slice_get_past, slice_get_within}
 use Rattle.kat_value.specs.declared.types.Ty.TheVariants as ty
@@ -238,18 +238,17 @@ module _ (trap user kernel step : Stm) (pre post : Assertion) where
     record {
       fits = record {
         registers = λ at v e. absurd (none-some v (sym (no_register at) ∙ e));
-        cells = λ i n e. in_region i n (nat_le 8 i) e;
+        cells = in_region;
       };
       registers = no_register;
       cells = λ i. cell_there i (nat_le 0 i) (nat_lt i 16) refl refl;
     },
   )
     where
-      in_region :
-          (i n : ℕ) (b : Bool) → (if b then cell_at image i else None) ≡ Some n →
-          IsOfMemory (memory_of decls) i n
-      in_region i n true e = of_memory i n (sym (cell_is i) ∙ e)
-      in_region i n false e = absurd (none-some n e)
+      in_region : (i n : ℕ) → cells_of_user i ≡ Some n → IsOfMemory (memory_of decls) i n
+      in_region i n = cond_both (nat_le 8 i) (cell_at image i) None
+          (λ o. o ≡ Some n → IsOfMemory (memory_of decls) i n)
+          (λ upper e. of_memory i n (sym (cell_is i) ∙ e)) (λ no e. absurd (none-some n e))
 
   -- it holds the entry
   entry_holds : Holds entry env owned

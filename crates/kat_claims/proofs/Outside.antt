@@ -1,10 +1,10 @@
 -- A write from outside leaves the phase, the kept values and the code of a typed specification.
-use Rattle.std.proofs.Common.{arith, ◌≡◌, ◌∙◌, ℕ, suc, ◌+◌, ◌-◌, Bool, true, false, not, ◌&&◌, List, [], ◌∷◌, ◌++◌, filter, get_or, map, slice_get, Option, Some, None, refl, sym, ap, subst, if◌then◌else◌}
+use Rattle.std.proofs.Common.{arith, ◌≡◌, ◌∙◌, ℕ, suc, ◌+◌, ◌-◌, true, not, ◌&&◌, List, [], ◌∷◌, ◌++◌, filter, get_or, map, slice_get, Option, Some, None, refl, sym, ap, subst}
 use Rattle.std.specs.Prelude.{◌==◌, nat_le, nat_lt}
 use Rattle.std.specs.Option.{option_map}
 use Rattle.std.specs.List.{AllByRecursion, cons_option, filter_map, list_any, range_with_len}
 use Rattle.std.specs.Str.{bytes_eq}
-use Rattle.std.proofs.lemmas.Bool.{false≢true, ne_eqb, not_from_false}
+use Rattle.std.proofs.lemmas.Bool.{cond_both, false≢true, ne_eqb, not_from_false}
 use Rattle.std.proofs.lemmas.Bool.Decides.{nat_tests}
 use Rattle.std.proofs.lemmas.List.Quantifiers.{position-Some}
 use Rattle.std.proofs.lemmas.Option.{cond_some, get_or_from_slice_get, option_and_then_some, slice_get-map}
@@ -109,16 +109,10 @@ registers_kept :
     AllByRecursion P (filter_map kept_register registers)
 registers_kept P [] each = tt
 registers_kept P (one ∷ registers) each =
-    by (is_protected_kind one.kind) (each 0 one refl)
-    (registers_kept P registers (λ at. each (suc at)))
-  where
-    by : (b : Bool) → (b ≡ true → P (KeptRegister one.name)) →
-        AllByRecursion P (filter_map kept_register registers) →
-        AllByRecursion P
-        (cons_option (if b then Some (KeptRegister one.name) else None)
-        (filter_map kept_register registers))
-    by true here rest = (here refl, rest)
-    by false here rest = rest
+    let rest = registers_kept P registers (λ at. each (suc at)) in
+    cond_both (is_protected_kind one.kind) (Some (KeptRegister one.name)) None
+    (λ o. AllByRecursion P (cons_option o (filter_map kept_register registers)))
+    (λ here. (each 0 one refl here, rest)) (λ no. rest)
 
 -- the protected cells of a memory
 cells_kept :
@@ -128,19 +122,15 @@ cells_kept :
 cells_kept P decls None each = tt
 cells_kept P decls (Some memory) each = among (range_with_len memory.lo (memory.hi - memory.lo))
   where
-    one : (i : ℕ) (b : Bool) (rest : List ℕ) → (b ≡ true → P (KeptCell i)) →
-        AllByRecursion P (map KeptCell rest) →
-        AllByRecursion P (map KeptCell (if b then i ∷ rest else rest))
-    one i true rest here more = (here refl, more)
-    one i false rest here more = more
-
     among : (indices : List ℕ) →
         AllByRecursion P
         (map KeptCell (filter (λ i. list_any (protects i) (ranges_of decls)) indices))
     among [] = tt
     among (i ∷ indices) =
-        one i (list_any (protects i) (ranges_of decls))
-        (filter (λ j. list_any (protects j) (ranges_of decls)) indices) (each i) (among indices)
+        let later = filter (λ j. list_any (protects j) (ranges_of decls)) indices in
+        cond_both (list_any (protects i) (ranges_of decls)) (i ∷ later) later
+        (λ cells. AllByRecursion P (map KeptCell cells))
+        (λ here. (each i here, among indices)) (λ no. among indices)
 
 -- what an outside write does not change: what is no outside register, and no cell of outside cells
 -- alone

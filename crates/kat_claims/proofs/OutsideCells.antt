@@ -1,8 +1,8 @@
 -- A cell that may be written from outside is of no other declaration of a typed specification.
 use Rattle.std.proofs.Common.{arith, ◌≡◌, ◌∙◌, ℕ, zero, suc, ◌+◌, ◌<◌, ◌≤◌, Bool, true, false, ◌&&◌, ◌||◌, List, [], ◌∷◌, length, take, drop, Option, Some, None, inl, inr, refl, sym, ap, subst, add-one}
-use Rattle.std.specs.Prelude.{nat_le, nat_lt}
+use Rattle.std.specs.Prelude.{◌⊎◌, nat_le, nat_lt}
 use Rattle.std.specs.List.{AllByRecursion, cons_option, list_any}
-use Rattle.std.proofs.lemmas.Bool.{and_from, false_from_ne_true, false≢true, le-leb, lt-ltb, not-true, or_from, or_parts, or_right}
+use Rattle.std.proofs.lemmas.Bool.{and_from, and_parts, false_from_ne_true, false≢true, le-leb, lt-ltb, not-true, or_cases, or_from, or_parts, or_right}
 use Rattle.std.proofs.lemmas.Bool.Decides.{nat_tests}
 use Rattle.std.proofs.lemmas.List.Folds.{list_any_kept}
 use Rattle.kat_ast.specs.declared.decl.CellsKind.TheVariants as cells
@@ -147,28 +147,24 @@ module _ (i : ℕ) where
       IsOutsideAlone i decls
   alone_from all k [] is clean lets = tt
   alone_from all k (decl ∷ decls) is clean lets =
-      by (has i decl) refl
+      by (or_cases (lets_write i decl) (list_any (lets_write i) decls) lets)
       (alone_from all (k + 1) decls
       (subst (λ n. drop n all ≡ decls) (sym (add-one k)) (at_number all k decl decls is).0) clean.1)
-      lets
     where
-      one :
-          (b : Bool) → list_any (lets_write i) decls ≡ false →
-          (b || list_any (lets_write i) decls) ≡ true → b ≡ true
-      one true none lets = refl
-      one false none lets = absurd (false≢true (sym none ∙ lets))
+      later : has i decl ≡ true → list_any (has i) decls ≡ false
+      later here = none_later all (k + 1) decls clean.1
+          (subst (λ n. list_any (has i) (take n all) ≡ true) (sym (add-one k))
+          ((at_number all k decl decls is).1 here))
 
       by :
-          (b : Bool) → has i decl ≡ b →
+          (lets_write i decl ≡ true) ⊎ (list_any (lets_write i) decls ≡ true) →
           (list_any (lets_write i) decls ≡ true → IsOutsideAlone i decls) →
-          ((b && is_outside_cells decl) || list_any (lets_write i) decls) ≡ true →
-          (has i decl ≡ true → is_outside_cells decl ≡ true) × IsOutsideAlone i decls
-      by true here rest lets =
-          let none = none_later all (k + 1) decls clean.1
-          (subst (λ n. list_any (has i) (take n all) ≡ true) (sym (add-one k))
-          ((at_number all k decl decls is).1 here)) in
-          (λ again. one (is_outside_cells decl) (none_lets decls none) lets, none_has decls none)
-      by false here rest lets = (λ again. absurd (false≢true (sym here ∙ again)), rest lets)
+          IsOutsideAlone i (decl ∷ decls)
+      by (inl here) rest =
+          let parts = and_parts (has i decl) (is_outside_cells decl) here in
+          (λ again. parts.1, none_has decls (later parts.0))
+      by (inr more) rest =
+          (λ here. absurd (false≢true (sym (none_lets decls (later here)) ∙ more)), rest more)
 
   -- a cell that is outside alone is not protected
   pub unprotected :
