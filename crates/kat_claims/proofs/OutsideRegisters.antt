@@ -14,7 +14,7 @@ use Rattle.kat_ast.specs.declared.decl.RegisterKind.TheVariants as register
 use Rattle.kat_ast.specs.Types.{trees_of_param}
 use Rattle.kat_syntax.specs.declared.type_rule.TypeRule.TheVariants.{NameTaken}
 use Rattle.kat_syntax.specs.Around.{RegisterSeen, a_register, first_named}
-use Rattle.kat_syntax.specs.Declares.{Declared, ctors_from, declared_by, declared_from, declared_in, is_type_decl, look_up, members_from, type_of_name}
+use Rattle.kat_syntax.specs.Declares.{Declared, ctors_from, declared_by, declared_from, declared_in, is_type_decl, look_up, members_from}
 use Rattle.kat_syntax.specs.Tables.{Name, RegisterDecl, register_names, registers_of}
 use Rattle.kat_syntax.specs.TypingDeclarations.{decl_faults, stands_at}
 use Rattle.kat_syntax.specs.TypingExpressions.{is_of_kind, is_outside_kind, is_protected_kind}
@@ -152,19 +152,11 @@ MeansFirst all k p decls r =
     (look_up a_register (declared_from all k p decls) r) ≡ true →
     not (is_outside_kind one.kind) ≡ true
 
+-- what is found is no outside register
 abbrev IsPlain : Option RegisterSeen → Type 0
 IsPlain seen = is_of_kind (λ kind. not (is_outside_kind kind)) seen ≡ true
 
--- a register where it is of the name wanted, or else what is found behind it
-abbrev chosen :
-    Bool → List DeclForm → ℕ → ℕ → TypeName → RegisterKind → List DeclForm → Name →
-    Option RegisterSeen
-chosen b all k p type kind decls r =
-    if b
-    then option_or (Some (record { kind = kind; type = type_of_name all k type }))
-    (look_up a_register (declared_from all (k + 1) p decls) r)
-    else look_up a_register (declared_from all (k + 1) p decls) r
-
+-- with one register before
 means_register :
     (all : List DeclForm) (k p : ℕ) (x : Name) (type : TypeName) (kind : RegisterKind)
     (decls : List DeclForm) (r : Name) → MeansFirst all (k + 1) p decls r →
@@ -174,15 +166,14 @@ means_register all k p x type kind decls r rest zero one there same before plain
     let here : bytes_eq x r ≡ true =
     (bytes_eq-Decides x r).1 (ap (λ (o : RegisterDecl). o.name) is ∙ sym same) in
     ap (λ (o : RegisterDecl). not (is_outside_kind o.kind)) (sym is)
-    ∙ subst (λ b. IsPlain (chosen b all k p type kind decls r)) here plain
+    ∙ (simp here at plain)
 means_register all k p x type kind decls r rest (suc q) one there same before plain =
-    rest q one there same (λ j less. before (suc j) (omega (arith, less)))
-    (subst (λ b. IsPlain (chosen b all k p type kind decls r)) other plain)
-  where
-    other : bytes_eq x r ≡ false
-    other = false_from_ne_true (bytes_eq x r) (λ e. false≢true (sym (before 0 (omega arith))
-        ∙ (bytes_eq-Decides r x).1 (sym ((bytes_eq-Decides x r).0 e))))
+    let other : bytes_eq x r ≡ false =
+    false_from_ne_true (bytes_eq x r) (λ e. false≢true (sym (before 0 (omega arith))
+    ∙ (bytes_eq-Decides r x).1 (sym ((bytes_eq-Decides x r).0 e)))) in
+    rest q one there same (λ j less. before (suc j) (omega (arith, less))) (simp other at plain)
 
+-- with any declarations
 pub means_first :
     (all : List DeclForm) (k p : ℕ) (decls : List DeclForm) (r : Name) →
     MeansFirst all k p decls r

@@ -31,7 +31,7 @@ use Rattle.kat_syntax.specs.Machine.{MachineState}
 use Rattle.kat_syntax.specs.Meaning.{Calls, Part, part_of, part_of_stm}
 use Rattle.kat_syntax.specs.Outcomes.{at_site, inside, place_in}
 use Rattle.kat_syntax.specs.Phases.{Boots, IsGuardedAt, IsWithoutAll, in_dispatch, phase_of, with_kept}
-use Rattle.kat_syntax.specs.Run.{Cycle, Ended, after_cycle, run_from, run_of, with_boundary}
+use Rattle.kat_syntax.specs.Run.{Cycle, Ended, run_of}
 use Rattle.kat_syntax.specs.States.{IsState, KeptPlace, KeptRegister, KeptCell, kept_places}
 use Rattle.kat_claims.specs.Machines.{block, machine_of, mode, state_of, when_block}
 use Rattle.kat_claims.proofs.Layers.{closed}
@@ -124,8 +124,4 @@ pub two_cycles :
     (spec : Spec) (s t u : MachineState) → cycle_of spec 1 s ≡ leaves t 0 →
     cycle_of spec 1 t ≡ leaves u 0 →
     run_of spec 1 s (Cycle ∷ Cycle ∷ []) ≡ record { boundaries = s ∷ t ∷ u ∷ []; end = Ended }
-two_cycles spec s t u first second =
-    ap (λ (c : CycleOutcome). with_boundary s (after_cycle 1 c
-    (λ next. run_from spec 1 1 next (Cycle ∷ [])))) first
-    ∙ ap (λ (c : CycleOutcome). with_boundary s (with_boundary t (after_cycle 2 c
-    (λ next. run_from spec 1 2 next [])))) second
+two_cycles spec s t u first second = simp (first, second)
