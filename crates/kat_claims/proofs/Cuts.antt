@@ -1,14 +1,11 @@
 -- Runs over fewer events, and over more of them.
-use Rattle.std.proofs.Common.{arith, ◌≡◌, ◌≢◌, ◌∙◌, ℕ, ◌+◌, suc, true, false, List, [], ◌∷◌, ◌++◌, length, Some, refl, sym, ap, subst, if◌then◌else◌}
+use Rattle.std.proofs.Common.{arith, ◌≡◌, ◌≢◌, ◌∙◌, ℕ, ◌+◌, suc, true, false, List, [], ◌∷◌, ◌++◌, length, refl, sym, ap, subst, if◌then◌else◌}
 use Rattle.std.specs.Prelude.{IsTrue, ◌≤◌, ◌<◌}
 use Rattle.std.specs.List.{AllByRecursion}
-use Rattle.kat_value.specs.declared.value.Value.{Value}
-use Rattle.kat_value.specs.declared.value.Value.TheVariants.{Bool as Truth}
 use Rattle.kat_ast.specs.Spec.{Spec}
 use Rattle.kat_ast.specs.declared.decl.Block.{Block}
 use Rattle.kat_ast.specs.declared.decl.DeclForm.{DeclForm}
 use Rattle.kat_syntax.specs.Cycle.{CycleOutcome, Completed, OutOfCalls, FailedAt, cycle_of}
-use Rattle.kat_syntax.specs.Evaluation.{BothEnds, value_of_expr}
 use Rattle.kat_syntax.specs.FirstTypeFault.{IsTyped}
 use Rattle.kat_syntax.specs.Machine.{MachineState}
 use Rattle.kat_syntax.specs.OutsideWrites.{NoFit, NoPlace, Poked, Wrote, poked}
@@ -121,8 +118,7 @@ module _ (decls : List DeclForm) where
   exits_cut [] later begins = none_cut later
   exits_cut (s ∷ after) [] begins = absurd begins
   exits_cut (s ∷ after) (t ∷ later) begins =
-      subst (λ p. ExitCut (if is_inside p then one_later (exit_of decls after) else Left s 1)
-      (exit_of decls (t ∷ later))) (sym begins.0.phase)
+      simp begins.0.phase
       (elim (is_inside (phase_of decls t)) as
       (λ b. ExitCut (if b then one_later (exit_of decls after) else Left s 1)
       (if b then one_later (exit_of decls later) else Left t 1)) [
@@ -130,21 +126,12 @@ module _ (decls : List DeclForm) where
         | false ↦ (refl, begins.0)
       ])
 
-  -- the change of a block is true of kept values
-  abbrev IsTrueOf : Block → List Value → List Value → Type 0
-  IsTrueOf block before after =
-      value_of_expr (record { decls = decls; reads = BothEnds before after; locals = [] })
-      block.change ≡ Some (Truth true)
-
   -- a block's run
   block_cut :
       (block : Block) (s t : MachineState) (x y : Exit) → LooksAs decls s t → ExitCut x y →
       IsBlockRun decls block t y → IsBlockRun decls block s x
-  block_cut block s t (Left y c) (Left z d) looks cut run = (
-    subst (λ n. n ≤ block.within) (sym cut.0) run.0,
-    subst (λ kept. IsTrueOf block kept (kept_of decls y)) (sym looks.kept)
-        (subst (IsTrueOf block (kept_of decls t)) (sym cut.1.kept) run.1),
-  )
+  block_cut block s t (Left y c) (Left z d) looks cut run =
+      (subst (λ n. n ≤ block.within) (sym cut.0) run.0, simp (looks.kept, cut.1.kept) run.1)
   block_cut block s t (Left y c) (Stays d) looks cut run = absurd cut
   block_cut block s t (Stays c) (Left z d) looks cut run =
       let less : d ≤ block.within = run.0 in omega (arith, cut, less)

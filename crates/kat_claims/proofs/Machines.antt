@@ -8,13 +8,13 @@ use Rattle.kat_ast.specs.declared.decl.Block.{Block}
 use Rattle.kat_ast.specs.declared.decl.Phase.{Phase}
 use Rattle.kat_ast.specs.declared.decl.Phase.TheVariants as phase
 use Rattle.kat_ast.specs.declared.expr.Expr.TheOpen as expr
-use Rattle.kat_syntax.specs.Cycle.{CycleOutcome, Completed, call_of, cycle_of}
+use Rattle.kat_syntax.specs.Cycle.{Completed, call_of, cycle_of}
 use Rattle.kat_syntax.specs.Machine.{MachineState}
 use Rattle.kat_syntax.specs.Phases.{IsCodeThere, block_of, phase_of}
 use Rattle.kat_syntax.specs.OutsideWrites.{poked, poked_at, target_in}
 use Rattle.kat_syntax.specs.declared.places.OutsidePlace.{OutsidePlace}
 use Rattle.kat_syntax.specs.declared.places.Poke.{Poke}
-use Rattle.kat_syntax.specs.Run.{Cycle, Event, OutsideWrite, Run, after_cycle, run_from, state_behind, run_of, with_boundary}
+use Rattle.kat_syntax.specs.Run.{Cycle, Event, OutsideWrite, Run, run_from, state_behind, run_of}
 use Rattle.kat_syntax.specs.Secure.{IsBlockRun, IsNoFailure, IsSecure, IsSecureRun, Left, between, exit_of, is_inside, one_later}
 use Rattle.kat_claims.specs.Machines.{anything, block, resting, yes}
 use Rattle.kat_syntax.specs.Tables.{Name}
@@ -54,14 +54,10 @@ resting_run :
 resting_run n k state [] is = record { all = (is, tt); ends = tt }
 resting_run zero k state (Cycle ∷ events) is = record { all = (is, tt); ends = tt }
 resting_run (suc left) k state (Cycle ∷ events) is =
-    subst (λ (c : CycleOutcome). Rests (with_boundary state (after_cycle (k + 1) c
-    (λ next. run_from resting (suc left) (k + 1) next events))))
-    (sym (rests_on state left))
-    (let more = resting_run (suc left) (k + 1) state events is in
-    record { all = (is, more.all); ends = more.ends })
+    let more = resting_run (suc left) (k + 1) state events is in
+    simp (rests_on state left) (record { all = (is, more.all); ends = more.ends })
 resting_run n k state (OutsideWrite poke ∷ events) is =
-    subst (λ (s : MachineState). Rests (run_from resting n k s events))
-    (sym (write_finds_nothing poke state)) (resting_run n k state events is)
+    simp (write_finds_nothing poke state) (resting_run n k state events is)
 
 -- what holds of all holds of one among them, and of those behind it
 of_split :
