@@ -31,25 +31,15 @@ joined f g = record {
   cells = λ index. joined_at (f.cells index) (g.cells index);
 }
 
--- the first part, and the others together
-left_at :
+-- the first part and the others together, and the others
+regrouped_at :
     {A : Type 0} (p f a b g : Option A) → JoinAt p f g → JoinAt f a b →
-    JoinAt p a (joined_at b g)
-left_at p f None None g h k = subst (λ x. JoinAt p x g) k h
-left_at p f None (Some w) None h k = subst (λ x. JoinAt p x None) k h
-left_at p f None (Some w) (Some u) h k = absurd (subst (λ x. JoinAt p x (Some u)) k h)
-left_at p f (Some v) None None h k = subst (λ x. JoinAt p x None) k h
-left_at p f (Some v) None (Some u) h k = absurd (subst (λ x. JoinAt p x (Some u)) k h)
-left_at p f (Some v) (Some w) g h k = absurd k
-
--- the others
-right_at :
-    {A : Type 0} (p f a b g : Option A) → JoinAt p f g → JoinAt f a b →
-    JoinAt (joined_at b g) b g
-right_at p f a None g h k = refl
-right_at p f None (Some w) None h k = refl
-right_at p f None (Some w) (Some u) h k = absurd (subst (λ x. JoinAt p x (Some u)) k h)
-right_at p f (Some v) (Some w) g h k = absurd k
+    JoinAt p a (joined_at b g) × JoinAt (joined_at b g) b g
+regrouped_at p f None None g h k = (subst (λ x. JoinAt p x g) k h, refl)
+regrouped_at p f None (Some w) None h k = (subst (λ x. JoinAt p x None) k h, refl)
+regrouped_at p f None (Some w) (Some u) h k = absurd (subst (λ x. JoinAt p x (Some u)) k h)
+regrouped_at p f (Some v) None g h k = (subst (λ x. JoinAt p x g) k h, refl)
+regrouped_at p f (Some v) (Some w) g h k = absurd k
 
 -- p is f and g, and f is a and b: so p is a, and b with g
 pub regroup :
@@ -58,12 +48,12 @@ pub regroup :
 regroup {p} {f} {g} {a} {b} h k = (
   joined b g,
   record {
-    registers = λ at. left_at _ _ _ _ _ (h.registers at) (k.registers at);
-    cells = λ index. left_at _ _ _ _ _ (h.cells index) (k.cells index);
+    registers = λ at. (regrouped_at _ _ _ _ _ (h.registers at) (k.registers at)).0;
+    cells = λ index. (regrouped_at _ _ _ _ _ (h.cells index) (k.cells index)).0;
   },
   record {
-    registers = λ at. right_at _ _ _ _ _ (h.registers at) (k.registers at);
-    cells = λ index. right_at _ _ _ _ _ (h.cells index) (k.cells index);
+    registers = λ at. (regrouped_at _ _ _ _ _ (h.registers at) (k.registers at)).1;
+    cells = λ index. (regrouped_at _ _ _ _ _ (h.cells index) (k.cells index)).1;
   },
 )
 

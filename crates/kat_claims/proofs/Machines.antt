@@ -1,11 +1,10 @@
 -- The small machine that does nothing is secure.
-use Rattle.std.proofs.Common.{arith, ◌≡◌, ◌∙◌, ℕ, ◌+◌, zero, suc, true, List, [], ◌∷◌, ◌++◌, Option, Some, refl, sym, ap, subst, if◌then◌else◌}
+use Rattle.std.proofs.Common.{arith, ◌≡◌, ◌∙◌, ℕ, ◌+◌, zero, suc, true, List, [], ◌∷◌, ◌++◌, Option, Some, refl, sym, ap, subst}
 use Rattle.std.specs.Prelude.{option_and_then}
 use Rattle.std.specs.List.{AllByRecursion}
 use Rattle.std.proofs.lemmas.Bool.{false≢true}
 use Rattle.std.proofs.lemmas.Option.{same_Some, slice_get_past}
 use Rattle.kat_ast.specs.declared.decl.Block.{Block}
-use Rattle.kat_ast.specs.declared.decl.Phase.{Phase}
 use Rattle.kat_ast.specs.declared.decl.Phase.TheVariants as phase
 use Rattle.kat_ast.specs.declared.expr.Expr.TheOpen as expr
 use Rattle.kat_syntax.specs.Cycle.{Completed, call_of, cycle_of}
@@ -15,7 +14,7 @@ use Rattle.kat_syntax.specs.OutsideWrites.{poked, poked_at, target_in}
 use Rattle.kat_syntax.specs.declared.places.OutsidePlace.{OutsidePlace}
 use Rattle.kat_syntax.specs.declared.places.Poke.{Poke}
 use Rattle.kat_syntax.specs.Run.{Cycle, Event, OutsideWrite, Run, run_from, state_behind, run_of}
-use Rattle.kat_syntax.specs.Secure.{IsBlockRun, IsNoFailure, IsSecure, IsSecureRun, Left, between, exit_of, is_inside, one_later}
+use Rattle.kat_syntax.specs.Secure.{IsBlockRun, IsNoFailure, IsSecure, IsSecureRun, between, exit_of, is_inside}
 use Rattle.kat_claims.specs.Machines.{anything, block, resting, yes}
 use Rattle.kat_syntax.specs.Tables.{Name}
 use Rattle.kat_claims.proofs.Steps.{ends_as, expr_layer, stm_layer}
@@ -76,10 +75,7 @@ block_ends :
     IsBlockRun resting.decls the_block state (exit_of resting.decls after)
 block_ends state [] all = omega arith
 block_ends state (next ∷ later) all =
-    subst (λ (p : Option Phase). IsBlockRun resting.decls the_block state
-    (if is_inside p then one_later (exit_of resting.decls later) else Left next 1))
-    (sym all.0)
-    (omega arith, expr_layer (between resting.decls state next) (expr.Truth true))
+    simp all.0 (omega arith, expr_layer (between resting.decls state next) (expr.Truth true))
 
 -- no code cell is declared
 no_code : (states : List MachineState) → AllByRecursion (IsCodeThere resting.decls) states
