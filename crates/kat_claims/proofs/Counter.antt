@@ -274,7 +274,8 @@ module _ (trap user kernel step : Stm) (pre post : Assertion) where
           region,
           taken_off (without 0 owned) 1 first_byte refl,
           closed predicates (assertion.Register (codes "pc") (byte 0)) env
-              (one_register 1 first_byte) (1, first_byte, refl, expr_layer env (expr.Bits 8 0), byte_typed, refl),
+              (one_register 1 first_byte)
+              (1, first_byte, refl, expr_layer env (expr.Bits 8 0), byte_typed, refl),
           (
             region,
             nothing,
