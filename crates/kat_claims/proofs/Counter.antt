@@ -1,5 +1,5 @@
 -- The counter machine boots.
-use Rattle.std.proofs.Common.{arith, ◌≡◌, ◌∙◌, ℕ, zero, suc, ◌-◌, Bool, true, false, List, [], ◌∷◌, Option, Some, None, refl, sym, ap, subst, slice_get, if◌then◌else◌, unwrap_or}
+use Rattle.std.proofs.Common.{arith, ◌≡◌, ◌∙◌, ℕ, zero, suc, ◌-◌, Bool, true, false, List, [], ◌∷◌, Option, Some, None, refl, sym, ap, subst, slice_get, if◌then◌else◌, unwrap_or, rules}
 use Rattle.std.specs.Prelude.{IsTrue, IsSome, nat_le, nat_lt, ◌==◌, ◌&&◌, ◌||◌, ◌<◌, ◌≤◌, ◌^◌, codes}
 use Rattle.std.specs.List.{AllByRecursion}
 use Rattle.std.proofs.lemmas.Bool.{and_parts, cond_both}
@@ -77,8 +77,7 @@ module _ (trap user kernel step : Stm) (pre post : Assertion) where
     registers = simp (bits_have_type, member_has_type);
     first = refl;
     count = refl;
-    fitting = (refl, (refl, (refl, (refl, (refl, (refl, (refl, (refl, (refl, (refl, (refl, (refl,
-        (refl, (refl, (refl, (refl, tt))))))))))))))));
+    fitting = search rules;
   }
 
   -- the conditions of its dispatch

@@ -155,8 +155,8 @@ others_stay decls (OneCell index width) s t out changes = record {
       (apart index i (λ same. none (subst (λ j. IsOutsideAlone j decls) same out)));
 }
 
-module _ (spec : Spec) (typed : IsTyped spec) (s t : MachineState) (stays : Stays spec.decls s t)
-    where
+module _ (spec : Spec) (typed : IsTyped spec) (s t : MachineState)
+    (stays : Stays spec.decls s t) where
   abbrev decls : List DeclForm
   decls = spec.decls
 
