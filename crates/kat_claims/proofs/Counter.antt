@@ -1,15 +1,13 @@
 -- The counter machine boots.
-use Rattle.std.proofs.Common.{arith, ◌≡◌, ◌∙◌, ℕ, zero, suc, ◌-◌, Bool, true, false, List, [], ◌∷◌, Option, Some, None, refl, sym, ap, subst, slice_get, if◌then◌else◌, unwrap_or}
-use Rattle.std.specs.Prelude.{IsTrue, IsSome, nat_le, nat_lt, ◌==◌, ◌&&◌, ◌<◌, ◌≤◌, ◌^◌, codes}
+use Rattle.std.proofs.Common.{arith, ◌≡◌, ◌∙◌, ℕ, zero, suc, ◌-◌, Bool, true, false, List, [], ◌∷◌, Option, Some, None, refl, sym, ap, subst, slice_get, if◌then◌else◌, unwrap_or, rules}
+use Rattle.std.specs.Prelude.{IsTrue, IsSome, nat_le, nat_lt, ◌==◌, ◌&&◌, ◌||◌, ◌<◌, ◌≤◌, ◌^◌, codes}
 use Rattle.std.specs.List.{AllByRecursion}
-use Rattle.std.proofs.lemmas.Bool.{and_parts}
+use Rattle.std.proofs.lemmas.Bool.{and_parts, cond_both}
 use Rattle.std.proofs.lemmas.Bool.Decides.{nat_tests}
-use Rattle.std.proofs.lemmas.Option.{slice_get-get_or, slice_get_past, slice_get_within}
-use Rattle.kat_value.specs.declared.op.Op.TheVariants as op
-use Rattle.kat_value.specs.declared.types.Ty.{Ty}
+use Rattle.std.proofs.lemmas.Option.{none-some, slice_get-get_or, slice_get_past, slice_get_within}
 use Rattle.kat_value.specs.declared.types.Ty.TheVariants as ty
 use Rattle.kat_value.specs.declared.types.TypeDecl.{TypeDecl}
-use Rattle.kat_value.specs.declared.value.Value.{Value, fold-roll-Value, out-Value}
+use Rattle.kat_value.specs.declared.value.Value.{Value, fold-roll-Value, map-Value, out-Value, roll-Value}
 use Rattle.kat_value.specs.declared.value.Value.TheOpen as layer
 use Rattle.kat_value.specs.declared.value.Value.TheVariants as value
 use Rattle.kat_value.specs.declared.value.Value.TheVariants.{rolls-Bits, rolls-Member}
@@ -25,50 +23,49 @@ use Rattle.kat_ast.specs.declared.stm.Stm.{Stm}
 use Rattle.kat_value.specs.Numbers.{IsNumber}
 use Rattle.kat_ast.specs.declared.assertion.Assertion.TheOpen as assertion
 use Rattle.kat_syntax.specs.Evaluation.{Environment, Nothing, value_of_expr}
-use Rattle.kat_syntax.specs.Fragments.{Fragment, IsOfMemory, IsOfType, Join, JoinAt, nothing, one_register, whole}
+use Rattle.kat_syntax.specs.Fragments.{Fragment, IsOfMemory, IsOfType, Join, nothing, one_register, whole}
 use Rattle.kat_syntax.specs.Holds.{Holds, IsRegion, IsThere, guards, is_true, predicates_of}
 use Rattle.kat_syntax.specs.Phases.{Boots, IsGuardedAt, in_dispatch, phase_of, with_kept}
 use Rattle.kat_syntax.specs.States.{IsState, cell_at, memory_of, register_position, register_types}
 use Rattle.kat_syntax.specs.TypeTable.{types_of_decls}
-use Rattle.kat_claims.specs.Counter.{at_zero, byte, counter, entry, holding, image, in_user, mode_of, named, own, read, upper}
+use Rattle.kat_claims.specs.Counter.{at_zero, byte, counter, entry, holding, image, in_user, mode_of, own, upper}
 use Rattle.kat_claims.specs.Security.{CounterBoots}
-use Rattle.kat_claims.proofs.Joins.{joins_are_unions}
+use Rattle.kat_claims.proofs.Joins.{split_place, taken_off, with_nothing, without}
 use Rattle.kat_claims.proofs.Layers.{closed}
-use Rattle.kat_claims.proofs.Steps.{expr_layer}
+use Rattle.kat_claims.proofs.Steps.{expr_layer, typed_by_layer}
 
--- numbers and members are of their types
+-- numbers are of their types
 bits_have_type :
     (types : List TypeDecl) (w n v : ℕ) →
     has_type types (value.Bits w n) (ty.Bits v) ≡ (w == v) && is_number w n
-bits_have_type types w n v =
-    ap (λ (x : Value). has_type types x (ty.Bits v)) (sym (rolls-Bits w n))
-    ∙ ap (λ (test : Ty → Bool). test (ty.Bits v))
-    (fold-roll-Value (Ty → Bool) (layer_has_type types) (layer.Bits w n))
+bits_have_type types w n v = typed_by_layer types (layer.Bits w n) _ (ty.Bits v) (rolls-Bits w n)
 
+-- members are of theirs
 member_has_type :
     (types : List TypeDecl) (p i q : ℕ) →
     has_type types (value.Member p i) (ty.Enum q)
     ≡ layer_has_type types (layer.Member p i) (ty.Enum q)
 member_has_type types p i q =
-    ap (λ (x : Value). has_type types x (ty.Enum q)) (sym (rolls-Member p i))
-    ∙ ap (λ (test : Ty → Bool). test (ty.Enum q))
-    (fold-roll-Value (Ty → Bool) (layer_has_type types) (layer.Member p i))
+    typed_by_layer types (layer.Member p i) _ (ty.Enum q) (rolls-Member p i)
 
--- equality of numbers and of members is tested on them
+-- equality of values is tested on their layers
+equal_by_layer :
+    (one : layer.Value-F Value) (x y : Value) → roll-Value one ≡ x →
+    value_eq x y
+    ≡ same_layer (map-Value Value (Value → Bool) value_eq one) (out-Value y)
+equal_by_layer one x y is =
+    ap (λ (v : Value). value_eq v y) (sym is)
+    ∙ ap (λ (test : Value → Bool). test y)
+    (fold-roll-Value (Value → Bool) (λ one x. same_layer one (out-Value x)) one)
+
+-- of numbers, and of members
 bits_equal : (w m v n : ℕ) → value_eq (value.Bits w m) (value.Bits v n) ≡ (w == v) && (m == n)
-bits_equal w m v n =
-    ap (λ (x : Value). value_eq x (value.Bits v n)) (sym (rolls-Bits w m))
-    ∙ ap (λ (test : Value → Bool). test (value.Bits v n))
-    (fold-roll-Value (Value → Bool) (λ one x. same_layer one (out-Value x)) (layer.Bits w m))
-    ∙ simp (outs-Bits)
+bits_equal w m v n = equal_by_layer (layer.Bits w m) _ _ (rolls-Bits w m) ∙ simp outs-Bits
 
 members_equal :
     (p i q j : ℕ) → value_eq (value.Member p i) (value.Member q j) ≡ (p == q) && (i == j)
 members_equal p i q j =
-    ap (λ (x : Value). value_eq x (value.Member q j)) (sym (rolls-Member p i))
-    ∙ ap (λ (test : Value → Bool). test (value.Member q j))
-    (fold-roll-Value (Value → Bool) (λ one x. same_layer one (out-Value x)) (layer.Member p i))
-    ∙ simp (outs-Member)
+    equal_by_layer (layer.Member p i) _ _ (rolls-Member p i) ∙ simp outs-Member
 
 module _ (trap user kernel step : Stm) (pre post : Assertion) where
   abbrev decls : List DeclForm
@@ -80,43 +77,7 @@ module _ (trap user kernel step : Stm) (pre post : Assertion) where
     registers = simp (bits_have_type, member_has_type);
     first = refl;
     count = refl;
-    fitting = (
-      refl,
-      (
-        refl,
-        (
-          refl,
-          (
-            refl,
-            (
-              refl,
-              (
-                refl,
-                (
-                  refl,
-                  (
-                    refl,
-                    (
-                      refl,
-                      (
-                        refl,
-                        (
-                          refl,
-                          (
-                            refl,
-                            (refl, (refl, (refl, (refl, tt)))),
-                          ),
-                        ),
-                      ),
-                    ),
-                  ),
-                ),
-              ),
-            ),
-          ),
-        ),
-      ),
-    );
+    fitting = search rules;
   }
 
   -- the conditions of its dispatch
@@ -124,24 +85,10 @@ module _ (trap user kernel step : Stm) (pre post : Assertion) where
   there = in_dispatch decls image
 
   not_in_user : value_of_expr there in_user ≡ Some (value.Bool false)
-  not_in_user =
-      expr_layer there (expr.Apply op.Eq (read (codes "mode") ∷ mode_of (codes "User") ∷ []))
-      ∙ simp (
-        expr_layer there (expr.Register (codes "mode")),
-        expr_layer there (expr.Of (codes "Mode") (codes "User")),
-        outs-Member,
-        members_equal,
-      )
+  not_in_user = simp (expr_layer, outs-Member, members_equal)
 
   is_at_zero : value_of_expr there at_zero ≡ Some (value.Bool true)
-  is_at_zero =
-      expr_layer there (expr.Apply op.Eq (read (codes "pc") ∷ byte 0 ∷ []))
-      ∙ simp (
-        expr_layer there (expr.Register (codes "pc")),
-        expr_layer there (expr.Bits 8 0),
-        outs-Bits,
-        bits_equal,
-      )
+  is_at_zero = simp (expr_layer, outs-Bits, bits_equal)
 
   -- its phase is the handler
   pub image_phase : phase_of decls image ≡ Some (phase.Block (codes "handler"))
@@ -157,92 +104,47 @@ module _ (trap user kernel step : Stm) (pre post : Assertion) where
   abbrev cells_of_user : ℕ → Option ℕ
   cells_of_user i = if nat_le 8 i then cell_at image i else None
 
-  abbrev region : Fragment
-  region = record { registers = λ at. None; cells = cells_of_user }
-
-  abbrev behind_mode : Fragment
-  behind_mode = record { registers = λ at. if at == 1 then Some first_byte else None; cells = cells_of_user }
+  abbrev is_owned : ℕ → Bool
+  is_owned at = (at == 0) || (at == 1)
 
   abbrev owned : Fragment
   owned = record {
-    registers = λ at. if at == 0 then Some kernel_mode
-        else (if at == 1 then Some first_byte else None);
+    registers = λ at. if is_owned at then slice_get image.registers at else None;
     cells = cells_of_user;
   }
 
   -- and the rest
   abbrev rest : Fragment
   rest = record {
-    registers = λ at. if at == 0 then None
-        else (if at == 1 then None else slice_get image.registers at);
+    registers = λ at. if is_owned at then None else slice_get image.registers at;
     cells = λ i. if nat_le 8 i then None else cell_at image i;
   }
 
-  -- no later position is one of these two
-  no_first : (at : ℕ) → (suc (suc at) == 0) ≡ false
-  no_first at = grind (arith, nat_tests)
-
-  no_second : (at : ℕ) → (suc (suc at) == 1) ≡ false
-  no_second at = grind (arith, nat_tests)
-
-  -- a union of registers there
-  none_there :
-      (a b : Bool) (v w : Value) → a ≡ false → b ≡ false →
-      JoinAt (if a then Some v else (if b then Some w else None)) (if a then Some v else None)
-      (if b then Some w else None)
-  none_there false false v w a_not b_not = refl
-  none_there true b v w a_not b_not = absurd (cc)
-  none_there false true v w a_not b_not = absurd (cc)
-
-  none_behind :
-      (b : Bool) (w : Value) → JoinAt (if b then Some w else None) (if b then Some w else None) None
-  none_behind false w = refl
-  none_behind true w = refl
-
-  rest_there :
-      (a b : Bool) (v w : Value) (o : Option Value) → a ≡ false → b ≡ false →
-      JoinAt o (if a then Some v else (if b then Some w else None))
-      (if a then None else (if b then None else o))
-  rest_there false false v w o a_not b_not = refl
-  rest_there true b v w o a_not b_not = absurd (cc)
-  rest_there false true v w o a_not b_not = absurd (cc)
-
-  -- a part and the rest of one place
-  split_cell :
-      (b : Bool) (o : Option ℕ) → JoinAt o (if b then o else None) (if b then None else o)
-  split_cell true None = refl
-  split_cell true (Some n) = refl
-  split_cell false o = refl
-
   split_image : Join (whole image) owned rest
   split_image = record {
-    registers = at_register;
-    cells = λ i. split_cell (nat_le 8 i) (cell_at image i);
+    registers = λ at. split_place (is_owned at) (slice_get image.registers at);
+    cells = λ i. split_place (nat_le 8 i) (cell_at image i);
   }
-    where
-      at_register : (at : ℕ) → JoinAt (slice_get image.registers at) (owned.registers at) (rest.registers at)
-      at_register zero = refl
-      at_register (suc zero) = refl
-      at_register (suc (suc at)) =
-          rest_there (suc (suc at) == 0) (suc (suc at) == 1) kernel_mode first_byte
-          (slice_get image.registers (suc (suc at))) (no_first at) (no_second at)
 
-  split_mode : Join owned (one_register 0 kernel_mode) behind_mode
-  split_mode = record { registers = at_register; cells = λ i. refl }
-    where
-      at_register : (at : ℕ) →
-          JoinAt (owned.registers at) (if at == 0 then Some kernel_mode else None) (behind_mode.registers at)
-      at_register zero = refl
-      at_register (suc zero) = refl
-      at_register (suc (suc at)) =
-          none_there (suc (suc at) == 0) (suc (suc at) == 1) kernel_mode first_byte
-          (no_first at) (no_second at)
+  -- its region, which has no register
+  abbrev region : Fragment
+  region = without 1 (without 0 owned)
 
-  split_first : Join behind_mode (one_register 1 first_byte) region
-  split_first = record { registers = λ at. none_behind (at == 1) first_byte; cells = λ i. refl }
+  no_register : (at : ℕ) → region.registers at ≡ None
+  no_register at = by (at == 0) (at == 1)
+    where
+      by :
+          (a b : Bool) →
+          (if b then None
+          else (if a then None else (if a || b then slice_get image.registers at else None)))
+          ≡ None
+      by a true = refl
+      by true false = refl
+      by false false = refl
 
   -- its fragment has neither the count nor the code
-  no_count : (at : ℕ) → register_position decls (codes "count") ≡ Some at → owned.registers at ≡ None
+  no_count :
+      (at : ℕ) → register_position decls (codes "count") ≡ Some at → owned.registers at ≡ None
   no_count at e =
       let third : 2 ≡ at = ap (λ o. unwrap_or o 2) e in
       subst (λ k. owned.registers k ≡ None) third refl
@@ -262,13 +164,7 @@ module _ (trap user kernel step : Stm) (pre post : Assertion) where
         locals = (codes "i", value.Bits 8 i) ∷ [];
       } in
       let value_is : value_of_expr inner upper ≡ Some (value.Bool (nat_le 8 i)) =
-      expr_layer inner (expr.Apply op.Ule (byte 8 ∷ named (codes "i") ∷ []))
-      ∙ simp (
-        expr_layer inner (expr.Bits 8 8),
-        expr_layer inner (expr.Name (codes "i")),
-        outs-Bits,
-        fits,
-      ) in
+      simp (expr_layer, outs-Bits, fits) in
       ap is_true value_is
 
   -- all cells hold numbers that fit
@@ -284,7 +180,10 @@ module _ (trap user kernel step : Stm) (pre post : Assertion) where
   number_fits : (n : ℕ) → is_number 8 n ≡ true → IsNumber 8 n
   number_fits n e =
       let below : nat_lt n (2 ^ 8) ≡ true = (and_parts (is_width 8) (nat_lt n (2 ^ 8)) e).1 in
-      record { width = record { positive = omega arith; small = omega arith }; below = grind (arith, nat_tests) }
+      record {
+        width = record { positive = omega arith; small = omega arith };
+        below = grind (arith, nat_tests);
+      }
 
   -- a cell by its index
   cell_is : (i : ℕ) → cell_at image i ≡ slice_get image.cells i
@@ -337,22 +236,18 @@ module _ (trap user kernel step : Stm) (pre post : Assertion) where
     refl,
     record {
       fits = record {
-        registers = λ at v e. none_some e;
-        cells = λ i n e. in_region i n (nat_le 8 i) e;
+        registers = λ at v e. absurd (none-some v (sym (no_register at) ∙ e));
+        cells = in_region;
       };
-      registers = λ at. refl;
+      registers = no_register;
       cells = λ i. cell_there i (nat_le 0 i) (nat_lt i 16) refl refl;
     },
   )
     where
-      none_some : {A : Type 0} {a : A} {T : Type 0} → None ≡ Some a → T
-      none_some e = absurd (cc)
-
-      in_region :
-          (i n : ℕ) (b : Bool) → (if b then cell_at image i else None) ≡ Some n →
-          IsOfMemory (memory_of decls) i n
-      in_region i n true e = of_memory i n (sym (cell_is i) ∙ e)
-      in_region i n false e = none_some e
+      in_region : (i n : ℕ) → cells_of_user i ≡ Some n → IsOfMemory (memory_of decls) i n
+      in_region i n = cond_both (nat_le 8 i) (cell_at image i) None
+          (λ o. o ≡ Some n → IsOfMemory (memory_of decls) i n)
+          (λ upper e. of_memory i n (sym (cell_is i) ∙ e)) (λ no e. absurd (none-some n e))
 
   -- it holds the entry
   entry_holds : Holds entry env owned
@@ -362,8 +257,8 @@ module _ (trap user kernel step : Stm) (pre post : Assertion) where
       let own_first = holding (codes "pc") (byte 0) in
       closed predicates (assertion.Star (own_mode ∷ own_first ∷ own ∷ [])) env owned (
         one_register 0 kernel_mode,
-        behind_mode,
-        split_mode,
+        without 0 owned,
+        taken_off owned 0 kernel_mode refl,
         closed predicates (assertion.Register (codes "mode") (mode_of (codes "Kernel"))) env
             (one_register 0 kernel_mode) (
               0,
@@ -376,13 +271,14 @@ module _ (trap user kernel step : Stm) (pre post : Assertion) where
         (
           one_register 1 first_byte,
           region,
-          split_first,
-          closed predicates (assertion.Register (codes "pc") (byte 0)) env (one_register 1 first_byte)
+          taken_off (without 0 owned) 1 first_byte refl,
+          closed predicates (assertion.Register (codes "pc") (byte 0)) env
+              (one_register 1 first_byte)
               (1, first_byte, refl, expr_layer env (expr.Bits 8 0), byte_typed, refl),
           (
             region,
             nothing,
-            joins_are_unions.unit region,
+            with_nothing region,
             closed predicates (assertion.Region (codes "own") []) env region ([], refl, is_region),
             refl,
           ),

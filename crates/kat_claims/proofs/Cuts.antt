@@ -1,15 +1,13 @@
 -- Runs over fewer events, and over more of them.
-use Rattle.std.proofs.Common.{arith, ◌≡◌, ◌≢◌, ◌∙◌, ℕ, ◌+◌, suc, true, false, List, [], ◌∷◌, ◌++◌, Some, refl, sym, ap, subst, if◌then◌else◌}
+use Rattle.std.proofs.Common.{arith, ◌≡◌, ◌≢◌, ◌∙◌, ℕ, ◌+◌, suc, true, false, List, [], ◌∷◌, ◌++◌, length, refl, sym, ap, subst, if◌then◌else◌}
 use Rattle.std.specs.Prelude.{IsTrue, ◌≤◌, ◌<◌}
 use Rattle.std.specs.List.{AllByRecursion}
-use Rattle.kat_value.specs.declared.value.Value.TheVariants.{Bool as Truth}
 use Rattle.kat_ast.specs.Spec.{Spec}
 use Rattle.kat_ast.specs.declared.decl.Block.{Block}
 use Rattle.kat_ast.specs.declared.decl.DeclForm.{DeclForm}
 use Rattle.kat_syntax.specs.Cycle.{CycleOutcome, Completed, OutOfCalls, FailedAt, cycle_of}
-use Rattle.kat_syntax.specs.Evaluation.{BothEnds, value_of_expr}
 use Rattle.kat_syntax.specs.FirstTypeFault.{IsTyped}
-use Rattle.kat_syntax.specs.Machine.{MachineState, Progress}
+use Rattle.kat_syntax.specs.Machine.{MachineState}
 use Rattle.kat_syntax.specs.OutsideWrites.{NoFit, NoPlace, Poked, Wrote, poked}
 use Rattle.kat_syntax.specs.declared.places.Poke.{Poke}
 use Rattle.kat_syntax.specs.Phases.{IsCodeThere, phase_of}
@@ -31,18 +29,15 @@ module _ (decls : List DeclForm) where
   pub same_look : (s : MachineState) → LooksAs decls s s
   same_look s = record { phase = refl; kept = refl; code = λ there. there }
 
-  -- lists of states that look alike, place by place
-  abbrev Alike : List MachineState → List MachineState → Type 0
-  Alike [] [] = Unit {0}
-  Alike [] (t ∷ ts) = ⊥
-  Alike (s ∷ ss) [] = ⊥
-  Alike (s ∷ ss) (t ∷ ts) = LooksAs decls s t × Alike ss ts
-
-  -- the first states of a list look so
+  -- the first states of a list look as those of another
   abbrev pub Begins : List MachineState → List MachineState → Type 0
   Begins [] ts = Unit {0}
   Begins (s ∷ ss) [] = ⊥
   Begins (s ∷ ss) (t ∷ ts) = LooksAs decls s t × Begins ss ts
+
+  -- all of them do
+  abbrev Alike : List MachineState → List MachineState → Type 0
+  Alike ss ts = Begins ss ts × (length ss ≡ length ts)
 
   -- the place in the longer list that a place of the shorter one has
   record Found (before : List MachineState) (s : MachineState) (after long : List MachineState) :
@@ -55,6 +50,7 @@ module _ (decls : List DeclForm) where
     looks : LooksAs decls s here
     begins : Begins after later
 
+  -- each place has one
   found :
       (before : List MachineState) (s : MachineState) (after long : List MachineState) →
       Begins (before ++ s ∷ after) long → Found before s after long
@@ -64,7 +60,7 @@ module _ (decls : List DeclForm) where
     here = t;
     later = ts;
     is = refl;
-    alike = tt;
+    alike = (tt, refl);
     looks = begins.0;
     begins = begins.1;
   }
@@ -76,14 +72,14 @@ module _ (decls : List DeclForm) where
         here = more.here;
         later = more.later;
         is = ap (λ l. t ∷ l) more.is;
-        alike = (begins.0, more.alike);
+        alike = ((begins.0, more.alike.0), ap suc more.alike.1);
         looks = more.looks;
         begins = more.begins;
       }
 
   -- untrusted cycles
   untrusted_cut :
-      (s next t : MachineState) (later rest : List MachineState) (earlier long : List MachineState) →
+      (s next t : MachineState) (later rest earlier long : List MachineState) →
       LooksAs decls s t → Begins (next ∷ rest) later → long ≡ earlier ++ t ∷ later →
       EachStep (KeepsWhereUntrusted decls) long → KeepsWhereUntrusted decls s next
   untrusted_cut s next t [] rest earlier long looks begins is each at = absurd begins
@@ -122,12 +118,11 @@ module _ (decls : List DeclForm) where
   exits_cut [] later begins = none_cut later
   exits_cut (s ∷ after) [] begins = absurd begins
   exits_cut (s ∷ after) (t ∷ later) begins =
-      subst (λ p. ExitCut (if is_inside p then one_later (exit_of decls after) else Left s 1)
-      (exit_of decls (t ∷ later))) (sym begins.0.phase)
+      simp begins.0.phase
       (elim (is_inside (phase_of decls t)) as
       (λ b. ExitCut (if b then one_later (exit_of decls after) else Left s 1)
       (if b then one_later (exit_of decls later) else Left t 1)) [
-        | true ↦ later_cut (exit_of decls after) (exit_of decls later) (exits_cut after later begins.1)
+        | true ↦ later_cut _ _ (exits_cut after later begins.1)
         | false ↦ (refl, begins.0)
       ])
 
@@ -135,54 +130,49 @@ module _ (decls : List DeclForm) where
   block_cut :
       (block : Block) (s t : MachineState) (x y : Exit) → LooksAs decls s t → ExitCut x y →
       IsBlockRun decls block t y → IsBlockRun decls block s x
-  block_cut block s t (Left y c) (Left z d) looks cut run = (
-    subst (λ n. n ≤ block.within) (sym cut.0) run.0,
-    subst (λ kept. value_of_expr (record { decls = decls; reads = BothEnds kept (kept_of decls y); locals = [] })
-        block.change ≡ Some (Truth true)) (sym looks.kept)
-        (subst (λ kept. value_of_expr (record { decls = decls; reads = BothEnds (kept_of decls t) kept; locals = [] })
-        block.change ≡ Some (Truth true)) (sym cut.1.kept) run.1),
-  )
+  block_cut block s t (Left y c) (Left z d) looks cut run =
+      (subst (λ n. n ≤ block.within) (sym cut.0) run.0, simp (looks.kept, cut.1.kept) run.1)
   block_cut block s t (Left y c) (Stays d) looks cut run = absurd cut
   block_cut block s t (Stays c) (Left z d) looks cut run =
       let less : d ≤ block.within = run.0 in omega (arith, cut, less)
   block_cut block s t (Stays c) (Stays d) looks cut run = omega (arith, cut, run)
 
+  -- what goes by looks holds of the first states where it holds of all
+  carried :
+      (P : MachineState → Type 0) → ((s t : MachineState) → LooksAs decls s t → P t → P s) →
+      (short long : List MachineState) → Begins short long → AllByRecursion P long →
+      AllByRecursion P short
+  carried P each [] long begins all = tt
+  carried P each (s ∷ short) [] begins all = absurd begins
+  carried P each (s ∷ short) (t ∷ long) begins all =
+      (each s t begins.0 all.0, carried P each short long begins.1 all.1)
+
   -- boundaries that are inside
   abbrev Inside : MachineState → Type 0
   Inside state = IsTrue (is_inside (phase_of decls state))
 
-  inside_cut :
-      (before inside : List MachineState) → Alike before inside →
-      AllByRecursion Inside inside → AllByRecursion Inside before
-  inside_cut [] [] alike all = tt
-  inside_cut [] (t ∷ ts) alike all = absurd alike
-  inside_cut (s ∷ before) [] alike all = absurd alike
-  inside_cut (s ∷ before) (t ∷ ts) alike all = (
-    subst (λ p. IsTrue (is_inside p)) (sym alike.0.phase) all.0,
-    inside_cut before ts alike.1 all.1,
-  )
+  inside_looks : (s t : MachineState) → LooksAs decls s t → Inside t → Inside s
+  inside_looks s t looks inside = subst (λ p. IsTrue (is_inside p)) (sym looks.phase) inside
 
   -- behind a block
   within_cut :
       (before earlier : List MachineState) (entry : MachineState) (inside : List MachineState) →
       Alike before (earlier ++ entry ∷ inside) → IsBlock decls entry →
       AllByRecursion Inside inside → IsWithinBlock decls before
-  within_cut [] [] entry inside alike is all = absurd alike
-  within_cut [] (e ∷ earlier) entry inside alike is all = absurd alike
-  within_cut (s ∷ before) [] entry inside alike is all =
-      ([], s, before, refl, (is.0, alike.0.phase ∙ is.1), inside_cut before inside alike.1 all)
-  within_cut (s ∷ before) (e ∷ earlier) entry inside alike is all =
-      let more = within_cut before earlier entry inside alike.1 is all in
+  within_cut [] [] entry inside (begins, same) is all = absurd (omega (arith, same))
+  within_cut [] (e ∷ earlier) entry inside (begins, same) is all = absurd (omega (arith, same))
+  within_cut (s ∷ before) [] entry inside (begins, same) is all = (
+    [],
+    s,
+    before,
+    refl,
+    (is.0, begins.0.phase ∙ is.1),
+    carried Inside inside_looks before inside begins.1 all,
+  )
+  within_cut (s ∷ before) (e ∷ earlier) entry inside (begins, same) is all =
+      let shorter : length before ≡ length (earlier ++ entry ∷ inside) = omega (arith, same) in
+      let more = within_cut before earlier entry inside (begins.1, shorter) is all in
       (s ∷ more.0, more.1, more.2, ap (λ l. s ∷ l) more.3, more.4, more.5)
-
-  -- code cells
-  code_cut :
-      (short long : List MachineState) → Begins short long →
-      AllByRecursion (IsCodeThere decls) long → AllByRecursion (IsCodeThere decls) short
-  code_cut [] long begins all = tt
-  code_cut (s ∷ short) [] begins all = absurd begins
-  code_cut (s ∷ short) (t ∷ long) begins all =
-      (begins.0.code all.0, code_cut short long begins.1 all.1)
 
   -- a run is the beginning of another, as far as security sees
   pub record IsCut (long short : Run) : Type 0 where
@@ -190,62 +180,77 @@ module _ (decls : List DeclForm) where
     pub ends : IsNoFailure long.end → IsNoFailure short.end
 
   -- it does what a run of a secure specification does
-  pub secure_cut : (long short : Run) → IsCut long short → IsSecureRun decls long → IsSecureRun decls short
+  pub secure_cut :
+      (long short : Run) → IsCut long short → IsSecureRun decls long → IsSecureRun decls short
   secure_cut long short cut secure = record {
     never_fails = cut.ends secure.never_fails;
     untrusted_keeps = λ before after s next is.
-        let at = found before s (next ∷ after) long.boundaries
-        (subst (λ l. Begins l long.boundaries) is cut.begins) in
-        untrusted_cut s next at.here at.later after at.earlier long.boundaries at.looks at.begins at.is
-        secure.untrusted_keeps;
+        let at = place before s (next ∷ after) is in
+        untrusted_cut s next at.here at.later after at.earlier long.boundaries at.looks at.begins
+        at.is secure.untrusted_keeps;
     blocks_end = λ before after s is x phase_is.
-        let at = found before s after long.boundaries
-        (subst (λ l. Begins l long.boundaries) is cut.begins) in
-        let ran = secure.blocks_end at.earlier at.later at.here at.is x (sym at.looks.phase ∙ phase_is) in (
+        let at = place before s after is in
+        let ran = secure.blocks_end at.earlier at.later at.here at.is x
+        (sym at.looks.phase ∙ phase_is) in (
           ran.0,
           ran.1,
           block_cut ran.0 s at.here (exit_of decls after) (exit_of decls at.later) at.looks
               (exits_cut after at.later at.begins) ran.2,
         );
     inside_behind_block = λ before after s is inside.
-        let at = found before s after long.boundaries
-        (subst (λ l. Begins l long.boundaries) is cut.begins) in
+        let at = place before s after is in
         let within = secure.inside_behind_block at.earlier at.later at.here at.is
         (subst (λ p. IsTrue (is_inside p)) at.looks.phase inside) in
-        within_cut before within.0 within.1 within.2 (subst (Alike before) within.3 at.alike) within.4 within.5;
-    code_stays = code_cut short.boundaries long.boundaries cut.begins secure.code_stays;
+        within_cut before within.0 within.1 within.2 (subst (Alike before) within.3 at.alike)
+        within.4 within.5;
+    code_stays = carried (IsCodeThere decls) (λ s t looks. looks.code) short.boundaries
+        long.boundaries cut.begins secure.code_stays;
   }
+    where
+      place :
+          (before : List MachineState) (s : MachineState) (after : List MachineState) →
+          short.boundaries ≡ before ++ s ∷ after → Found before s after long.boundaries
+      place before s after is = found before s after long.boundaries
+          (subst (λ l. Begins l long.boundaries) is cut.begins)
 
 -- the first boundary of a run over these events looks as its start
 abbrev pub BeginsAt : Spec → Run → MachineState → Type 0
 BeginsAt spec run s = Begins spec.decls (s ∷ []) run.boundaries
 
 -- more events behind a run, whose first boundary looks as where they begin
-module _ (spec : Spec) (n : ℕ) (more : List Event) (Good : MachineState → Type 0)
-    (behind_cycle : (s : MachineState) (p : Progress) → Good s → cycle_of spec n s ≡ Completed p → Good p.state)
-    (behind_write : (s : MachineState) (poke : Poke) → Good s → Good (state_behind s (poked spec poke s)))
-    (first : (k : ℕ) (s : MachineState) → Good s → BeginsAt spec (run_from spec n k s more) s) where
-  pub cut_at : (k : ℕ) (s : MachineState) (events : List Event) → Good s →
+module _ (spec : Spec) (n : ℕ) (more : List Event)
+    (first : (k : ℕ) (s : MachineState) → BeginsAt spec (run_from spec n k s more) s) where
+  cut_at :
+      (k : ℕ) (s : MachineState) (events : List Event) →
       IsCut spec.decls (run_from spec n k s (events ++ more)) (run_from spec n k s events)
-  cut_at k s [] good = record { begins = first k s good; ends = λ no. tt }
-  cut_at k s (Cycle ∷ events) good =
-      by (cycle_of spec n s) (λ p is. cut_at (k + 1) p.state events (behind_cycle s p good is)) refl
+  cut_at k s [] = record { begins = first k s; ends = λ no. tt }
+  cut_at k s (Cycle ∷ events) =
+      by (cycle_of spec n s) (λ next. cut_at (k + 1) next events)
     where
       by : (c : CycleOutcome) →
-          ((p : Progress) → cycle_of spec n s ≡ Completed p →
-          IsCut spec.decls (run_from spec n (k + 1) p.state (events ++ more))
-          (run_from spec n (k + 1) p.state events)) →
-          (cycle_of spec n s ≡ c) →
+          ((next : MachineState) →
+          IsCut spec.decls (run_from spec n (k + 1) next (events ++ more))
+          (run_from spec n (k + 1) next events)) →
           IsCut spec.decls
-          (with_boundary s (after_cycle (k + 1) c (λ next. run_from spec n (k + 1) next (events ++ more))))
+          (with_boundary s (after_cycle (k + 1) c
+          (λ next. run_from spec n (k + 1) next (events ++ more))))
           (with_boundary s (after_cycle (k + 1) c (λ next. run_from spec n (k + 1) next events)))
-      by (Completed p) next is =
-          let later = next p is in
+      by (Completed p) next =
+          let later = next p.state in
           record { begins = (same_look spec.decls s, later.begins); ends = later.ends }
-      by OutOfCalls next is = record { begins = (same_look spec.decls s, tt); ends = λ no. no }
-      by (FailedAt place) next is = record { begins = (same_look spec.decls s, tt); ends = λ no. no }
-  cut_at k s (OutsideWrite poke ∷ events) good =
-      cut_at k (state_behind s (poked spec poke s)) events (behind_write s poke good)
+      by OutOfCalls next = record { begins = (same_look spec.decls s, tt); ends = λ no. no }
+      by (FailedAt place) next = record { begins = (same_look spec.decls s, tt); ends = λ no. no }
+  cut_at k s (OutsideWrite poke ∷ events) =
+      cut_at k (state_behind s (poked spec poke s)) events
+
+  -- so what a longer run does that is secure, the shorter one does
+  secure_before :
+      (start : MachineState) (events : List Event) →
+      IsSecureRun spec.decls (run_of spec n start (events ++ more)) →
+      IsSecureRun spec.decls (run_of spec n start events)
+  secure_before start events =
+      secure_cut spec.decls (run_of spec n start (events ++ more)) (run_of spec n start events)
+      (cut_at 0 start events)
 
 -- events that are none or begin with a cycle
 begins_with_cycle :
@@ -267,8 +272,10 @@ ended_from spec n k s (Cycle ∷ events) more ends =
     by : (c : CycleOutcome) →
         ((next : MachineState) → (run_from spec n (k + 1) next events).end ≢ Ended →
         run_from spec n (k + 1) next (events ++ more) ≡ run_from spec n (k + 1) next events) →
-        (with_boundary s (after_cycle (k + 1) c (λ next. run_from spec n (k + 1) next events))).end ≢ Ended →
-        with_boundary s (after_cycle (k + 1) c (λ next. run_from spec n (k + 1) next (events ++ more)))
+        (with_boundary s (after_cycle (k + 1) c (λ next. run_from spec n (k + 1) next events))).end
+        ≢ Ended →
+        with_boundary s (after_cycle (k + 1) c
+        (λ next. run_from spec n (k + 1) next (events ++ more)))
         ≡ with_boundary s (after_cycle (k + 1) c (λ next. run_from spec n (k + 1) next events))
     by (Completed p) next ends = ap (with_boundary s) (next p.state ends)
     by OutOfCalls next ends = refl
@@ -319,13 +326,9 @@ begins_anywhere spec n k s (OutsideWrite poke ∷ more) keep typed =
 -- what runs do goes by their events
 pub runs_go_by_events : OutsideWritesKeep → RunsGoByEvents
 runs_go_by_events keep = record {
-  ended = λ spec n start events more ends. ended_from spec n 0 start events more ends;
-  cut = λ spec n start events more is secure.
-      secure_cut spec.decls (run_of spec n start (events ++ more)) (run_of spec n start events)
-      (cut_at spec n more (λ s. Unit {0}) (λ s p good is. tt) (λ s poke good. tt)
-      (λ k s good. begins_with_cycle spec n k s more is) 0 start events tt) secure;
-  cut_anywhere = λ spec n start events more typed secure.
-      secure_cut spec.decls (run_of spec n start (events ++ more)) (run_of spec n start events)
-      (cut_at spec n more (λ s. Unit {0}) (λ s p good is. tt) (λ s poke good. tt)
-      (λ k s good. begins_anywhere spec n k s more keep typed) 0 start events tt) secure;
+  ended = λ spec n. ended_from spec n 0;
+  cut = λ spec n start events more is.
+      secure_before spec n more (λ k s. begins_with_cycle spec n k s more is) start events;
+  cut_anywhere = λ spec n start events more typed.
+      secure_before spec n more (λ k s. begins_anywhere spec n k s more keep typed) start events;
 }

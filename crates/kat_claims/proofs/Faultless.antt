@@ -3,11 +3,10 @@ use Rattle.std.proofs.Common.{◌≡◌, ℕ, Bool, true, false, List, [], ◌�
 use Rattle.std.specs.List.{AllByRecursion}
 use Rattle.kat_ast.specs.declared.decl.DeclForm.{DeclForm}
 use Rattle.kat_syntax.specs.declared.type_rule.TypeRule.{TypeRule}
-use Rattle.kat_syntax.specs.declared.type_rule.TypeRule.TheVariants.{TooMany}
 use Rattle.kat_syntax.specs.Around.{Around}
 use Rattle.kat_syntax.specs.FirstTypeFault.{faults_from}
 use Rattle.kat_syntax.specs.TypeRules.{Fault, unless}
-use Rattle.kat_syntax.specs.TypingDeclarations.{decl_faults, inner_faults, is_in_limits, own_names, taken_names}
+use Rattle.kat_syntax.specs.TypingDeclarations.{decl_faults, inner_faults, own_names, taken_names}
 
 -- where two lists together are empty, each is
 pub no_first : {A : Type 0} (xs ys : List A) → xs ++ ys ≡ [] → xs ≡ []
@@ -32,15 +31,10 @@ AreClean all k decls =
 pub names_clean :
     (around : Around) (decl : DeclForm) → decl_faults around decl ≡ [] →
     taken_names around (own_names around decl) ≡ []
-names_clean around decl e =
-    no_first (taken_names around (own_names around decl))
-    (unless (is_in_limits around decl) 0 TooMany ++ inner_faults around decl) e
+names_clean around decl e = no_first _ _ e
 
 -- what stands behind its names and the limits has no faults
 pub inner_clean :
     (around : Around) (decl : DeclForm) → decl_faults around decl ≡ [] →
     inner_faults around decl ≡ []
-inner_clean around decl e =
-    let limits = unless (is_in_limits around decl) 0 TooMany in
-    no_second limits (inner_faults around decl)
-    (no_second (taken_names around (own_names around decl)) (limits ++ inner_faults around decl) e)
+inner_clean around decl e = no_second _ _ (no_second _ _ e)

@@ -1,6 +1,7 @@
 -- What holds an assertion is a fragment of the machine.
-use Rattle.std.proofs.Common.{◌≡◌, ◌==◌, ℕ, if◌then◌else◌, slice_get, Bool, true, false, List, [], ◌∷◌, reverse, map, Option, Some, None, refl, sym, ap, subst, ◌∙◌, eqb-true, unwrap_or}
+use Rattle.std.proofs.Common.{◌≡◌, ◌==◌, ℕ, if◌then◌else◌, slice_get, Bool, true, false, List, [], ◌∷◌, reverse, map, Option, Some, None, sym, subst, ◌∙◌, eqb-true}
 use Rattle.std.specs.Str.{bytes_eq}
+use Rattle.std.proofs.lemmas.Option.{cond_some, none-some}
 use Rattle.kat_value.specs.declared.value.Value.{Value}
 use Rattle.kat_ast.specs.declared.assertion.Assertion.{Assertion}
 use Rattle.kat_ast.specs.declared.assertion.Assertion.TheOpen.{Assertion-F, Pure, Register, Cell, Star, If, Exists, Predicate, Region}
@@ -15,13 +16,9 @@ use Rattle.kat_syntax.specs.Tables.{Name}
 use Rattle.kat_claims.specs.Assertions.{HoldersAreFragments}
 use Rattle.kat_claims.proofs.Layers.{opened}
 
--- what is not there is not there
-none_some : {A : Type 0} {a : A} {T : Type 0} → None ≡ Some a → T
-none_some e = absurd (cc)
-
--- what is there is what it is
-some_same : {A : Type 0} {a b : A} → Some a ≡ Some b → a ≡ b
-some_same {A} {a} e = ap (λ o. unwrap_or o a) e
+-- what is not there is of any kind
+none_some : {A T : Type 0} {a : A} → None ≡ Some a → T
+none_some {A} {T} {a} e = absurd (none-some a e)
 
 -- nothing is a fragment
 nothing_fragment : (decls : List DeclForm) → IsFragment decls nothing
@@ -30,22 +27,22 @@ nothing_fragment decls = record {
   cells = λ i n e. none_some e;
 }
 
+-- what is at one place alone is what is there
+at_one :
+    {A : Type 0} (P : ℕ → A → Type 0) (r : ℕ) (v : A) → P r v →
+    (at : ℕ) (w : A) → (if at == r then Some v else None) ≡ Some w → P at w
+at_one P r v has at w e =
+    let parts = cond_some (at == r) v w e in
+    subst (λ k. P k w) (sym (eqb-true at r parts.0)) (subst (P r) parts.1 has)
+
 -- one register with a value of its type is a fragment
 one_register_fragment :
     (decls : List DeclForm) (r : ℕ) (v : Value) →
     IsOfType decls (slice_get (register_types decls) r) v → IsFragment decls (one_register r v)
 one_register_fragment decls r v typed = record {
-  registers = λ at w e. go at w (at == r) refl e;
+  registers = at_one (λ at. IsOfType decls (slice_get (register_types decls) at)) r v typed;
   cells = λ i n e. none_some e;
 }
-  where
-    go :
-        (at : ℕ) (w : Value) (t : Bool) → (at == r) ≡ t → (if t then Some v else None) ≡ Some w →
-        IsOfType decls (slice_get (register_types decls) at) w
-    go at w true is e =
-        subst (λ k. IsOfType decls (slice_get (register_types decls) k) w) (sym (eqb-true at r is))
-        (subst (IsOfType decls (slice_get (register_types decls) r)) (some_same e) typed)
-    go at w false is e = none_some e
 
 -- one cell of the memory with a number that fits is a fragment
 one_cell_fragment :
@@ -53,16 +50,8 @@ one_cell_fragment :
     IsFragment decls (one_cell i n)
 one_cell_fragment decls i n fits = record {
   registers = λ at v e. none_some e;
-  cells = λ index m e. go index m (index == i) refl e;
+  cells = at_one (IsOfMemory (memory_of decls)) i n fits;
 }
-  where
-    go :
-        (index m : ℕ) (t : Bool) → (index == i) ≡ t → (if t then Some n else None) ≡ Some m →
-        IsOfMemory (memory_of decls) index m
-    go index m true is e =
-        subst (λ k. IsOfMemory (memory_of decls) k m) (sym (eqb-true index i is))
-        (subst (IsOfMemory (memory_of decls) i) (some_same e) fits)
-    go index m false is e = none_some e
 
 -- what a union has at a place one of its parts has
 of_either :
@@ -77,10 +66,9 @@ joined_fragment :
     (decls : List DeclForm) (p f g : Fragment) → Join p f g →
     IsFragment decls f → IsFragment decls g → IsFragment decls p
 joined_fragment decls p f g join first second = record {
-  registers = λ at v e. of_either (p.registers at) (f.registers at) (g.registers at) v
-      (join.registers at) (first.registers at v) (second.registers at v) e;
-  cells = λ i n e. of_either (p.cells i) (f.cells i) (g.cells i) n
-      (join.cells i) (first.cells i n) (second.cells i n) e;
+  registers = λ at v. of_either _ _ _ v (join.registers at) (first.registers at v)
+      (second.registers at v);
+  cells = λ i n. of_either _ _ _ n (join.cells i) (first.cells i n) (second.cells i n);
 }
 
 module _ (decls : List DeclForm) (predicates : Predicates)
@@ -135,7 +123,7 @@ module _ (decls : List DeclForm) (predicates : Predicates)
   layer_holds (Exists x type body) reads locals f (v, typed, h) =
       body.1 reads ((x, v) ∷ locals) f h
   layer_holds (Predicate x args) reads locals f (values, are, h) = premise x values f h
-  layer_holds (Region x args) reads locals f (values, are, (region, found, names, binds, h)) = h.fits
+  layer_holds (Region x args) reads locals f (values, are, (region, found, names, bind, h)) = h.fits
 
   -- what holds an assertion is a fragment, the predicates being of such
   pub holder : (a : Assertion) → Holder a

@@ -1,10 +1,11 @@
 -- Machines that break one clause of security each, and one of which no state boots.
-use Rattle.std.proofs.Common.{arith, ◌≡◌, ◌∙◌, ℕ, suc, Bool, true, false, List, [], ◌∷◌, Option, Some, refl, sym, ap, subst, slice_get, if◌then◌else◌, unwrap_or}
+use Rattle.std.proofs.Common.{arith, ◌≡◌, ◌∙◌, ℕ, suc, Bool, true, false, List, [], ◌∷◌, Option, Some, refl, sym, ap, subst, slice_get}
 use Rattle.std.specs.Prelude.{◌<◌, option_and_then}
+use Rattle.std.proofs.lemmas.Bool.{true≢false}
+use Rattle.std.proofs.lemmas.Option.{same_Some}
 use Rattle.kat_value.specs.declared.value.Value.{Value}
 use Rattle.kat_value.specs.declared.value.Value.TheVariants as value
 use Rattle.kat_value.specs.declared.value.Value.TheViews.{outs-Bool}
-use Rattle.kat_value.specs.declared.op.Op.TheVariants as op
 use Rattle.kat_ast.specs.declared.decl.Block.{Block}
 use Rattle.kat_ast.specs.declared.decl.DeclForm.{DeclForm}
 use Rattle.kat_ast.specs.declared.decl.Phase.{Phase}
@@ -13,221 +14,152 @@ use Rattle.kat_ast.specs.declared.decl.RegisterKind.{RegisterKind}
 use Rattle.kat_ast.specs.declared.decl.RegisterKind.TheVariants as register
 use Rattle.kat_ast.specs.declared.decl.When.{When}
 use Rattle.kat_ast.specs.declared.expr.Expr.{Expr}
-use Rattle.kat_ast.specs.declared.expr.Expr.TheOpen as expr
-use Rattle.kat_ast.specs.declared.expr.Expr.TheViews.{roll-Expr}
-use Rattle.kat_ast.specs.declared.stm.Stm.TheOpen as stm
-use Rattle.kat_ast.specs.declared.stm.Stm.TheViews.{roll-Stm}
-use Rattle.kat_syntax.specs.Cycle.{call_of, cycle_of}
-use Rattle.kat_syntax.specs.Evaluation.{Environment, Locals, Nothing, value_of_expr}
+use Rattle.kat_ast.specs.declared.stm.Stm.{Stm}
+use Rattle.kat_syntax.specs.Cycle.{CycleOutcome, FailedAt, call_of, cycle_of}
+use Rattle.kat_syntax.specs.Evaluation.{value_of_expr}
 use Rattle.kat_syntax.specs.Machine.{MachineState}
-use Rattle.kat_syntax.specs.Meaning.{Calls, Part, part_of, part_of_stm, truth_of}
-use Rattle.kat_syntax.specs.Phases.{Boots, in_dispatch, phase_of}
-use Rattle.kat_syntax.specs.Run.{Cycle, Ended, Run, run_of}
-use Rattle.kat_syntax.specs.Secure.{IsBlockRun, IsSecure, IsSecureRun, Left, Stays, between, exit_of, is_inside, one_later}
-use Rattle.kat_syntax.specs.States.{IsState}
-use Rattle.kat_claims.specs.Machines.{anything, as_spec, block, exceeding, falsehood, guarded, lingering, local, machine_of, mode, shifts, slipping, state_of, tampering, the_local, unbootable, not_set, when_block, when_untrusted, write, yes}
-use Rattle.kat_claims.proofs.Steps.{block_phase, boots_there, ends_as, expr_layer, leaves, one_cycle, state_there, stm_layer, truth_has_type, two_cycles}
-
--- where the expressions of a step are read
-abbrev plain : List DeclForm → Locals → Environment
-plain decls locals = record { decls = decls; reads = Nothing; locals = locals }
-
--- a truth that is written, and the local
-truth_value :
-    (decls : List DeclForm) (locals : Locals) (b : Bool) →
-    value_of_expr (plain decls locals) (roll-Expr (expr.Truth b)) ≡ Some (value.Bool b)
-truth_value decls locals b = expr_layer (plain decls locals) (expr.Truth b)
-
-local_value :
-    (decls : List DeclForm) (v : Value) →
-    value_of_expr (plain decls ((local, v) ∷ [])) the_local ≡ Some v
-local_value decls v = expr_layer (plain decls ((local, v) ∷ [])) (expr.Name local)
-
--- what the parts of the step that hands on are
-abbrev shifts_layer : List DeclForm → Calls → Part
-shifts_layer decls calls =
-    part_of decls calls (stm.Let local (part_of decls calls (stm.Read mode))
-    (part_of decls calls (stm.Seq
-    (part_of decls calls (stm.Write guarded the_local)
-    ∷ part_of decls calls (stm.Write mode falsehood) ∷ []))))
-
-shifts_part :
-    (decls : List DeclForm) (calls : Calls) →
-    part_of_stm decls calls shifts ≡ shifts_layer decls calls
-shifts_part decls calls =
-    stm_layer decls calls (stm.Let local (roll-Stm (stm.Read mode)) (roll-Stm (stm.Seq
-    (write guarded the_local ∷ write mode falsehood ∷ []))))
-    ∙ ap (λ (part : Part). part_of decls calls (stm.Let local part
-    (part_of_stm decls calls (roll-Stm (stm.Seq
-    (write guarded the_local ∷ write mode falsehood ∷ []))))))
-    (stm_layer decls calls (stm.Read mode))
-    ∙ ap (λ (part : Part). part_of decls calls (stm.Let local
-    (part_of decls calls (stm.Read mode)) part))
-    (stm_layer decls calls (stm.Seq (write guarded the_local ∷ write mode falsehood ∷ []))
-    ∙ ap (λ (part : Part). part_of decls calls (stm.Seq
-    (part ∷ part_of_stm decls calls (write mode falsehood) ∷ [])))
-    (stm_layer decls calls (stm.Write guarded the_local))
-    ∙ ap (λ (part : Part). part_of decls calls (stm.Seq
-    (part_of decls calls (stm.Write guarded the_local) ∷ part ∷ [])))
-    (stm_layer decls calls (stm.Write mode falsehood)))
-
-module _ (kind : RegisterKind) (cases : List When) (otherwise : Phase) (change : Expr) where
-  -- a cycle of the step that hands on
-  shifts_once :
-      (a b : Bool) (left : ℕ) →
-      cycle_of (as_spec (machine_of kind cases otherwise change shifts)) (suc left) (state_of a b)
-      ≡ leaves (state_of false a) left
-  shifts_once a b left =
-      let decls = machine_of kind cases otherwise change shifts in
-      ap (ends_as decls (state_of a b) left) (shifts_part decls (call_of decls left))
-      ∙ simp (
-        local_value decls (value.Bool a),
-        truth_value decls ((local, value.Bool a) ∷ []) false,
-        truth_has_type [] a,
-        truth_has_type [] false,
-      )
-
-  -- a cycle of a step that writes a truth into the first, and into the second
-  writes_first :
-      (a b c : Bool) (left : ℕ) →
-      cycle_of (as_spec (machine_of kind cases otherwise change (write mode (roll-Expr (expr.Truth c)))))
-      (suc left) (state_of a b) ≡ leaves (state_of c b) left
-  writes_first a b c left =
-      let e = roll-Expr (expr.Truth c) in
-      let decls = machine_of kind cases otherwise change (write mode e) in
-      ap (ends_as decls (state_of a b) left) (stm_layer decls (call_of decls left) (stm.Write mode e))
-      ∙ simp (truth_value decls [] c, truth_has_type [] c)
-
-  writes_second :
-      (a b c : Bool) (left : ℕ) →
-      cycle_of (as_spec (machine_of kind cases otherwise change (write guarded (roll-Expr (expr.Truth c)))))
-      (suc left) (state_of a b) ≡ leaves (state_of a c) left
-  writes_second a b c left =
-      let e = roll-Expr (expr.Truth c) in
-      let decls = machine_of kind cases otherwise change (write guarded e) in
-      ap (ends_as decls (state_of a b) left) (stm_layer decls (call_of decls left) (stm.Write guarded e))
-      ∙ simp (truth_value decls [] c, truth_has_type [] c)
+use Rattle.kat_syntax.specs.Meaning.{truth_of}
+use Rattle.kat_syntax.specs.Phases.{Boots, phase_of}
+use Rattle.kat_syntax.specs.Run.{Cycle, Ended}
+use Rattle.kat_syntax.specs.Secure.{IsBlockRun, IsSecure, IsSecureRun, KeepsWhereUntrusted, between, exit_of, is_inside}
+use Rattle.kat_claims.specs.Machines.{anything, as_spec, block, exceeding, failing, fails, falsehood, guarded, lingering, mode, shifts, slipping, state_of, tampering, unbootable, not_set, when_untrusted, write, yes}
+use Rattle.kat_claims.proofs.Steps.{block_phase, boots_there, ends_as, expr_layer, leaves, of_block, state_there, stm_layer, truth_has_type, two_cycles}
 
 -- true is not false
 differ : {T : Type 0} → Some (value.Bool false) ≡ Some (value.Bool true) → T
 differ e = absurd (let no : Some false ≡ Some true =
     ap (λ (o : Option Value). option_and_then truth_of o) e in cc)
 
--- a run of a machine that is secure, over these events
-module _ (decls : List DeclForm) (start : MachineState) (is : IsState decls start) (boots : Boots decls start)
-    (secure : IsSecure (as_spec decls)) where
-  over_one :
-      (run : Run) → run_of (as_spec decls) 1 start (Cycle ∷ []) ≡ run → IsSecureRun decls run
-  over_one run same =
-      subst (IsSecureRun decls) same (secure start 1 (Cycle ∷ []) is boots tt (refl, tt))
+-- such a machine, from where its block begins, over two cycles
+module _ (kind : RegisterKind) (cases : List When) (otherwise : Phase) (change : Expr)
+    (body : Stm) where
+  abbrev decls : List DeclForm
+  decls = of_block kind cases otherwise change body
 
-  over_two :
-      (run : Run) → run_of (as_spec decls) 1 start (Cycle ∷ Cycle ∷ []) ≡ run → IsSecureRun decls run
-  over_two run same =
-      subst (IsSecureRun decls) same
-      (secure start 1 (Cycle ∷ Cycle ∷ []) is boots tt (refl, (refl, tt)))
+  abbrev start : MachineState
+  start = state_of true false
 
--- the second cycle of the machine that tampers is untrusted
+  -- its block
+  abbrev own : Block
+  own = record { name = block; entry = anything; within = 1; change = change }
+
+  -- what it does where it is secure, the cycles leading to these states
+  record Does (t u : MachineState) : Type 0 where
+    keeps : KeepsWhereUntrusted decls t u
+    ends : IsBlockRun decls own start (exit_of decls (t ∷ u ∷ []))
+
+  -- it does so, by the run over two cycles
+  does :
+      (t u : MachineState) → cycle_of (as_spec decls) 1 start ≡ leaves t 0 →
+      cycle_of (as_spec decls) 1 t ≡ leaves u 0 → IsSecure (as_spec decls) → Does t u
+  does t u first second secure =
+      let run : IsSecureRun decls (record { boundaries = start ∷ t ∷ u ∷ []; end = Ended }) =
+      subst (IsSecureRun decls) (two_cycles (as_spec decls) start t u first second)
+      (secure start 1 (Cycle ∷ Cycle ∷ []) (state_there kind cases otherwise change body true false)
+      (boots_there kind cases otherwise change body false) tt (refl, (refl, tt))) in
+      let there = run.blocks_end [] (t ∷ u ∷ []) start refl block
+      (block_phase kind cases otherwise change body false) in
+      let same : own ≡ there.0 = same_Some own there.0 there.1 in
+      record {
+        keeps = run.untrusted_keeps (start ∷ []) [] t u refl;
+        ends = subst (λ (b : Block). IsBlockRun decls b start (exit_of decls (t ∷ u ∷ [])))
+            (sym same) there.2;
+      }
+
+module _ (kind : RegisterKind) (cases : List When) (otherwise : Phase) (change : Expr) where
+  -- a cycle of such a machine with this step
+  abbrev cycle : Stm → MachineState → CycleOutcome
+  cycle body s = cycle_of (as_spec (of_block kind cases otherwise change body)) 1 s
+
+  -- a step that hands the first truth on
+  shifts_once : (a b : Bool) → cycle shifts (state_of a b) ≡ leaves (state_of false a) 0
+  shifts_once a b =
+      let decls = of_block kind cases otherwise change shifts in
+      ap (ends_as decls (state_of a b) 0) (stm_layer decls (call_of decls 0) _)
+      ∙ simp (stm_layer, expr_layer, truth_has_type)
+
+  -- so a machine with the first step, where it is secure, does that of two cycles
+  shifting :
+      IsSecure (as_spec (of_block kind cases otherwise change shifts)) →
+      Does kind cases otherwise change shifts (state_of false true) (state_of false false)
+  shifting =
+      does kind cases otherwise change shifts _ _ (shifts_once true false) (shifts_once false true)
+
+  -- steps that write one of the truths
+  first_once :
+      (a b : Bool) → cycle (write mode falsehood) (state_of a b) ≡ leaves (state_of false b) 0
+  first_once a b =
+      let decls = of_block kind cases otherwise change (write mode falsehood) in
+      ap (ends_as decls (state_of a b) 0) (stm_layer decls (call_of decls 0) _)
+      ∙ simp (expr_layer, truth_has_type)
+
+  second_once :
+      (a b : Bool) → cycle (write guarded yes) (state_of a b) ≡ leaves (state_of a true) 0
+  second_once a b =
+      let decls = of_block kind cases otherwise change (write guarded yes) in
+      ap (ends_as decls (state_of a b) 0) (stm_layer decls (call_of decls 0) _)
+      ∙ simp (expr_layer, truth_has_type)
+
+-- the machine that fails does so in its first cycle
+fails_there :
+    (state : MachineState) (left : ℕ) →
+    cycle_of failing (suc left) state ≡ FailedAt (record { decl = 2; tree = 5 })
+fails_there state left =
+    ap (ends_as failing.decls state left) (stm_layer failing.decls (call_of failing.decls left) _)
+
+pub failing_breaks : IsSecure failing → ⊥
+failing_breaks secure =
+    let run = secure (state_of true false) 1 (Cycle ∷ [])
+    (state_there register.Protected [] phase.Untrusted yes fails true false)
+    (boots_there register.Protected [] phase.Untrusted yes fails false) tt (refl, tt) in
+    simp (fails_there (state_of true false) 0) at run.never_fails
+
+-- the second cycle of the machine that tampers is untrusted, and changes the protected register
 tampering_phase : phase_of tampering.decls (state_of false true) ≡ Some phase.Untrusted
-tampering_phase = simp (expr_layer (in_dispatch tampering.decls (state_of false true)) (expr.Register mode))
+tampering_phase = simp expr_layer
 
--- it changes the protected register
 pub tampering_breaks : IsSecure tampering → ⊥
 tampering_breaks secure =
-    let run = over_two tampering.decls (state_of true false)
-    (state_there register.Protected [] phase.Untrusted yes shifts true false)
-    (boots_there register.Protected [] phase.Untrusted yes shifts false) secure
-    (record { boundaries = state_of true false ∷ state_of false true ∷ state_of false false ∷ []; end = Ended })
-    (two_cycles tampering (state_of true false) (state_of false true) (state_of false false)
-    (shifts_once register.Protected (when_block ∷ []) phase.Untrusted yes true false 0)
-    (shifts_once register.Protected (when_block ∷ []) phase.Untrusted yes false true 0)) in
-    let keeps = run.untrusted_keeps (state_of true false ∷ []) [] (state_of false true)
-    (state_of false false) refl tampering_phase in
-    differ (ap (λ (kept : List Value). slice_get kept 0) keeps.1)
+    let done = shifting register.Protected [] phase.Untrusted yes secure in
+    differ (ap (λ (kept : List Value). slice_get kept 0) (done.keeps tampering_phase).1)
 
 -- the second cycle of the machine that slips is untrusted, and what it leaves is inside
 slipping_phase : phase_of slipping.decls (state_of false true) ≡ Some phase.Untrusted
-slipping_phase =
-    let env = in_dispatch slipping.decls (state_of false true) in
-    simp (expr_layer env (expr.Register mode), expr_layer env (expr.Register guarded))
+slipping_phase = simp expr_layer
 
 slipping_inside : phase_of slipping.decls (state_of false false) ≡ Some phase.Inside
-slipping_inside =
-    let env = in_dispatch slipping.decls (state_of false false) in
-    simp (expr_layer env (expr.Register mode), expr_layer env (expr.Register guarded))
+slipping_inside = simp expr_layer
 
 pub slipping_breaks : IsSecure slipping → ⊥
 slipping_breaks secure =
-    let cases = when_block ∷ when_untrusted ∷ [] in
-    let run = over_two slipping.decls (state_of true false)
-    (state_there register.Plain (when_untrusted ∷ []) phase.Inside yes shifts true false)
-    (boots_there register.Plain (when_untrusted ∷ []) phase.Inside yes shifts false) secure
-    (record { boundaries = state_of true false ∷ state_of false true ∷ state_of false false ∷ []; end = Ended })
-    (two_cycles slipping (state_of true false) (state_of false true) (state_of false false)
-    (shifts_once register.Plain cases phase.Inside yes true false 0)
-    (shifts_once register.Plain cases phase.Inside yes false true 0)) in
-    let keeps = run.untrusted_keeps (state_of true false ∷ []) [] (state_of false true)
-    (state_of false false) refl slipping_phase in
-    let no : true ≡ false = sym (ap is_inside slipping_inside) ∙ keeps.0 in cc
+    let done = shifting register.Plain (when_untrusted ∷ []) phase.Inside yes secure in
+    true≢false (sym (ap is_inside slipping_inside) ∙ (done.keeps slipping_phase).0)
 
 -- behind its block the machine that lingers is inside
 lingering_inside : phase_of lingering.decls (state_of false false) ≡ Some phase.Inside
-lingering_inside =
-    simp (expr_layer (in_dispatch lingering.decls (state_of false false)) (expr.Register mode))
-
--- the block that is found is this one
-found_is : (own found : Block) → Some own ≡ Some found → found ≡ own
-found_is own found e = sym (ap (λ o. unwrap_or o own) e)
+lingering_inside = simp expr_layer
 
 pub lingering_breaks : IsSecure lingering → ⊥
 lingering_breaks secure =
-    let body = write mode falsehood in
-    let run = over_one lingering.decls (state_of true false)
-    (state_there register.Protected [] phase.Inside yes body true false)
-    (boots_there register.Protected [] phase.Inside yes body false) secure
-    (record { boundaries = state_of true false ∷ state_of false false ∷ []; end = Ended })
-    (one_cycle lingering (state_of true false) (state_of false false)
-    (writes_first register.Protected (when_block ∷ []) phase.Inside yes true false false 0)) in
-    let there = run.blocks_end [] (state_of false false ∷ []) (state_of true false) refl block
-    (block_phase register.Protected [] phase.Inside yes body false) in
-    let ends = subst (λ (b : Block). IsBlockRun lingering.decls b (state_of true false)
-    (exit_of lingering.decls (state_of false false ∷ [])))
-    (found_is (record { name = block; entry = anything; within = 1; change = yes }) there.0 there.1)
-    there.2 in
-    let past : 1 < 1 = subst (λ (b : Bool). IsBlockRun lingering.decls
-    (record { name = block; entry = anything; within = 1; change = yes }) (state_of true false)
-    (if b then one_later (Stays 0) else Left (state_of false false) 1))
-    (ap is_inside lingering_inside) ends in
+    let done = does register.Protected [] phase.Inside yes (write mode falsehood) _ _
+    (first_once register.Protected [] phase.Inside yes true false)
+    (first_once register.Protected [] phase.Inside yes false false) secure in
+    let past : 2 < 1 = simp lingering_inside at done.ends in
     omega (arith, past)
 
--- its change is not true
+-- the change of the machine that exceeds is not true, and its block is left
 exceeding_change :
     value_of_expr (between exceeding.decls (state_of true false) (state_of true true)) not_set
     ≡ Some (value.Bool false)
-exceeding_change =
-    let env = between exceeding.decls (state_of true false) (state_of true true) in
-    expr_layer env (expr.Apply op.Not (roll-Expr (expr.After guarded) ∷ []))
-    ∙ simp (expr_layer env (expr.After guarded), outs-Bool)
+exceeding_change = simp (expr_layer, outs-Bool)
 
 pub exceeding_breaks : IsSecure exceeding → ⊥
 exceeding_breaks secure =
-    let body = write guarded yes in
-    let run = over_one exceeding.decls (state_of true false)
-    (state_there register.Protected [] phase.Untrusted not_set body true false)
-    (boots_there register.Protected [] phase.Untrusted not_set body false) secure
-    (record { boundaries = state_of true false ∷ state_of true true ∷ []; end = Ended })
-    (one_cycle exceeding (state_of true false) (state_of true true)
-    (writes_second register.Protected (when_block ∷ []) phase.Untrusted not_set true false true 0)) in
-    let there = run.blocks_end [] (state_of true true ∷ []) (state_of true false) refl block
-    (block_phase register.Protected [] phase.Untrusted not_set body false) in
-    let ends = subst (λ (b : Block). IsBlockRun exceeding.decls b (state_of true false)
-    (exit_of exceeding.decls (state_of true true ∷ [])))
-    (found_is (record { name = block; entry = anything; within = 1; change = not_set }) there.0 there.1)
-    there.2 in
-    let left = subst (λ (b : Bool). IsBlockRun exceeding.decls
-    (record { name = block; entry = anything; within = 1; change = not_set }) (state_of true false)
-    (if b then one_later (Stays 0) else Left (state_of true true) 1))
-    (ap is_inside (block_phase register.Protected [] phase.Untrusted not_set body true)) ends in
+    let done = does register.Protected [] phase.Untrusted not_set (write guarded yes) _ _
+    (second_once register.Protected [] phase.Untrusted not_set true false)
+    (second_once register.Protected [] phase.Untrusted not_set true true) secure in
+    let left = simp (block_phase register.Protected [] phase.Untrusted not_set
+    (write guarded yes) true) at done.ends in
     differ (sym exceeding_change ∙ left.1)
 
 -- no state boots where every phase is untrusted

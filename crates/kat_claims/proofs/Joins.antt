@@ -1,8 +1,8 @@
 -- Disjoint unions of fragments.
-use Rattle.std.proofs.Common.{◌≡◌, ℕ, Option, Some, None, refl, sym, ap₂, subst, ◌∙◌}
+use Rattle.std.proofs.Common.{◌≡◌, ◌==◌, ℕ, Bool, true, false, Option, Some, None, refl, sym, ap₂, subst, ◌∙◌, eqb-true, if◌then◌else◌}
 use Rattle.std.proofs.Math.Path.{fun_ext}
 use Rattle.kat_value.specs.declared.value.Value.{Value}
-use Rattle.kat_syntax.specs.Fragments.{Fragment, JoinAt, Join, nothing}
+use Rattle.kat_syntax.specs.Fragments.{Fragment, JoinAt, Join, nothing, one_register}
 use Rattle.kat_claims.specs.Fragments.{JoinsAreUnions}
 
 -- a union at one place, in the other order
@@ -15,8 +15,8 @@ swapped_at p (Some v) (Some w) e = absurd e
 -- a union in the other order
 pub swapped : {p f g : Fragment} → Join p f g → Join p g f
 swapped {p} {f} {g} h = record {
-  registers = λ at. swapped_at (p.registers at) (f.registers at) (g.registers at) (h.registers at);
-  cells = λ index. swapped_at (p.cells index) (f.cells index) (g.cells index) (h.cells index);
+  registers = λ at. swapped_at _ _ _ (h.registers at);
+  cells = λ index. swapped_at _ _ _ (h.cells index);
 }
 
 -- what one of two has at a place
@@ -31,25 +31,15 @@ joined f g = record {
   cells = λ index. joined_at (f.cells index) (g.cells index);
 }
 
--- the first part, and the others together
-left_at :
+-- the first part and the others together, and the others
+regrouped_at :
     {A : Type 0} (p f a b g : Option A) → JoinAt p f g → JoinAt f a b →
-    JoinAt p a (joined_at b g)
-left_at p f None None g h k = subst (λ x. JoinAt p x g) k h
-left_at p f None (Some w) None h k = subst (λ x. JoinAt p x None) k h
-left_at p f None (Some w) (Some u) h k = absurd (subst (λ x. JoinAt p x (Some u)) k h)
-left_at p f (Some v) None None h k = subst (λ x. JoinAt p x None) k h
-left_at p f (Some v) None (Some u) h k = absurd (subst (λ x. JoinAt p x (Some u)) k h)
-left_at p f (Some v) (Some w) g h k = absurd k
-
--- the others
-right_at :
-    {A : Type 0} (p f a b g : Option A) → JoinAt p f g → JoinAt f a b →
-    JoinAt (joined_at b g) b g
-right_at p f a None g h k = refl
-right_at p f None (Some w) None h k = refl
-right_at p f None (Some w) (Some u) h k = absurd (subst (λ x. JoinAt p x (Some u)) k h)
-right_at p f (Some v) (Some w) g h k = absurd k
+    JoinAt p a (joined_at b g) × JoinAt (joined_at b g) b g
+regrouped_at p f None None g h k = (subst (λ x. JoinAt p x g) k h, refl)
+regrouped_at p f None (Some w) None h k = (subst (λ x. JoinAt p x None) k h, refl)
+regrouped_at p f None (Some w) (Some u) h k = absurd (subst (λ x. JoinAt p x (Some u)) k h)
+regrouped_at p f (Some v) None g h k = (subst (λ x. JoinAt p x g) k h, refl)
+regrouped_at p f (Some v) (Some w) g h k = absurd k
 
 -- p is f and g, and f is a and b: so p is a, and b with g
 pub regroup :
@@ -58,18 +48,38 @@ pub regroup :
 regroup {p} {f} {g} {a} {b} h k = (
   joined b g,
   record {
-    registers = λ at. left_at (p.registers at) (f.registers at) (a.registers at) (b.registers at)
-        (g.registers at) (h.registers at) (k.registers at);
-    cells = λ index. left_at (p.cells index) (f.cells index) (a.cells index) (b.cells index)
-        (g.cells index) (h.cells index) (k.cells index);
+    registers = λ at. (regrouped_at _ _ _ _ _ (h.registers at) (k.registers at)).0;
+    cells = λ index. (regrouped_at _ _ _ _ _ (h.cells index) (k.cells index)).0;
   },
   record {
-    registers = λ at. right_at (p.registers at) (f.registers at) (a.registers at) (b.registers at)
-        (g.registers at) (h.registers at) (k.registers at);
-    cells = λ index. right_at (p.cells index) (f.cells index) (a.cells index) (b.cells index)
-        (g.cells index) (h.cells index) (k.cells index);
+    registers = λ at. (regrouped_at _ _ _ _ _ (h.registers at) (k.registers at)).1;
+    cells = λ index. (regrouped_at _ _ _ _ _ (h.cells index) (k.cells index)).1;
   },
 )
+
+-- what one part has where this is true, and the other elsewhere
+pub split_place :
+    {A : Type 0} (b : Bool) (o : Option A) →
+    JoinAt o (if b then o else None) (if b then None else o)
+split_place true None = refl
+split_place true (Some v) = refl
+split_place false o = refl
+
+-- a fragment without a register
+abbrev pub without : ℕ → Fragment → Fragment
+without r f = record f { registers = λ at. if at == r then None else f.registers at }
+
+-- is what is left of it where the register is taken off
+pub taken_off :
+    (f : Fragment) (r : ℕ) (v : Value) → f.registers r ≡ Some v →
+    Join f (one_register r v) (without r f)
+taken_off f r v there = record { registers = λ at. by at (at == r) refl; cells = λ i. refl }
+  where
+    by :
+        (at : ℕ) (b : Bool) → (at == r) ≡ b →
+        JoinAt (f.registers at) (if b then Some v else None) (if b then None else f.registers at)
+    by at true is = subst (λ k. f.registers k ≡ Some v) (sym (eqb-true at r is)) there
+    by at false is = refl
 
 -- nothing at a place adds nothing
 alone_at : {A : Type 0} (o : Option A) → JoinAt o o None
@@ -99,10 +109,8 @@ same_fragment {p} {q} r c =
 -- a union is determined by its parts
 pub determined : {p q f g : Fragment} → Join p f g → Join q f g → p ≡ q
 determined {p} {q} {f} {g} h k = same_fragment
-    (fun_ext (λ at. same_at (p.registers at) (q.registers at) (f.registers at) (g.registers at)
-    (h.registers at) (k.registers at)))
-    (fun_ext (λ index. same_at (p.cells index) (q.cells index) (f.cells index) (g.cells index)
-    (h.cells index) (k.cells index)))
+    (fun_ext (λ at. same_at _ _ _ _ (h.registers at) (k.registers at)))
+    (fun_ext (λ index. same_at _ _ _ _ (h.cells index) (k.cells index)))
 
 -- unions of disjoint fragments are an algebra
 pub joins_are_unions : JoinsAreUnions

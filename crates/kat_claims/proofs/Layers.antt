@@ -16,7 +16,8 @@ module _ (predicates : Predicates) where
   -- the parts of a `star` stand in their places
   natural_all :
       (X : Type 0) (v : X → Assertion) (says : Assertion → Says) (parts : List X) →
-      HoldsAll predicates X (λ p. says (v p)) parts ≡ HoldsAll predicates Assertion says (map v parts)
+      HoldsAll predicates X (λ p. says (v p)) parts
+      ≡ HoldsAll predicates Assertion says (map v parts)
   natural_all X v says [] = refl
   natural_all X v says (part ∷ parts) =
       ap (λ (rest : Says). λ (env : Environment) (f : Fragment).
@@ -43,7 +44,8 @@ module _ (predicates : Predicates) where
       HoldsBy predicates (roll-Assertion layer)
       ≡ HoldsLayer predicates Assertion (HoldsBy predicates) layer
   holds_rolled layer =
-      rec-roll-Assertion Says (λ X whole holds layer. HoldsLayer predicates X holds layer) natural layer
+      rec-roll-Assertion Says (λ X whole holds layer. HoldsLayer predicates X holds layer) natural
+      layer
 
   -- the same, opened
   pub opened :

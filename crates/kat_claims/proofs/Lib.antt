@@ -2,6 +2,7 @@ mod Joins
 mod Budgets
 mod Layers
 mod Holders
+mod ReadAlike
 mod NamesRead
 mod Steps
 mod Machines
@@ -12,5 +13,6 @@ mod Cuts
 mod Faultless
 mod OutsideCells
 mod OutsideRegisters
+mod OutsidePlaces
 mod OutsidePhase
 mod Outside

@@ -1,13 +1,13 @@
 -- A write from outside leaves the phase, the kept values and the code of a typed specification.
-use Rattle.std.proofs.Common.{arith, ◌≡◌, ◌∙◌, ℕ, ◌+◌, ◌-◌, Bool, true, false, not, ◌&&◌, List, [], ◌∷◌, ◌++◌, filter, get_or, map, slice_get, Option, Some, None, refl, sym, ap, subst, if◌then◌else◌}
-use Rattle.std.specs.Prelude.{◌==◌, nat_le, nat_lt, option_and_then}
+use Rattle.std.proofs.Common.{arith, ◌≡◌, ◌∙◌, ℕ, suc, ◌+◌, ◌-◌, true, not, ◌&&◌, List, [], ◌∷◌, ◌++◌, filter, get_or, map, slice_get, Option, Some, None, refl, sym, ap, subst}
+use Rattle.std.specs.Prelude.{◌==◌, nat_le, nat_lt}
 use Rattle.std.specs.Option.{option_map}
 use Rattle.std.specs.List.{AllByRecursion, cons_option, filter_map, list_any, range_with_len}
 use Rattle.std.specs.Str.{bytes_eq}
-use Rattle.std.proofs.lemmas.Bool.{eqb-true, false≢true}
+use Rattle.std.proofs.lemmas.Bool.{cond_both, false≢true, ne_eqb, not_from_false}
 use Rattle.std.proofs.lemmas.Bool.Decides.{nat_tests}
 use Rattle.std.proofs.lemmas.List.Quantifiers.{position-Some}
-use Rattle.std.proofs.lemmas.Option.{get_or_from_slice_get, slice_get-map}
+use Rattle.std.proofs.lemmas.Option.{cond_some, get_or_from_slice_get, option_and_then_some, slice_get-map}
 use Rattle.std.proofs.lemmas.Slice.Eq.{bytes_eq-Decides}
 use Rattle.kat_value.specs.declared.value.Value.{Value}
 use Rattle.kat_value.specs.declared.value.Value.TheVariants.{Bits as Number}
@@ -16,24 +16,24 @@ use Rattle.kat_ast.specs.declared.decl.DeclForm.{DeclForm}
 use Rattle.kat_syntax.specs.declared.places.OutsidePlace.{OutsidePlace}
 use Rattle.kat_syntax.specs.declared.places.OutsidePlace.TheVariants.{Register as OutsideRegister, Cells as OutsideCells}
 use Rattle.kat_syntax.specs.declared.places.Poke.{Poke}
-use Rattle.kat_syntax.specs.Around.{a_register, meant}
 use Rattle.kat_syntax.specs.FirstTypeFault.{IsTyped}
 use Rattle.kat_syntax.specs.Machine.{MachineState}
 use Rattle.kat_syntax.specs.MeaningLaws.{ChangesOnePlace, OutsideWritesChangeOnePlace}
 use Rattle.kat_syntax.specs.Memories.{Memory, protects, ranges_of}
-use Rattle.kat_syntax.specs.OutsideWrites.{OneCell, OneRegister, Target, outside_places, target_in, target_of}
-use Rattle.kat_syntax.specs.Phases.{IsCodeThere, phase_of}
+use Rattle.kat_syntax.specs.OutsideWrites.{OneCell, OneRegister, Target, Wrote, outside_places, poked, target_in}
+use Rattle.kat_syntax.specs.Phases.{phase_of}
 use Rattle.kat_syntax.specs.States.{KeptCell, KeptPlace, KeptRegister, cell_at, cell_width, kept_cells, kept_of, kept_places, kept_register, memory_of, register_position, register_value, value_at, value_of_place}
 use Rattle.kat_syntax.specs.Tables.{Name, RegisterDecl, register_names, registers_of}
-use Rattle.kat_syntax.specs.TypingExpressions.{is_of_kind, is_outside_kind, is_protected_kind}
+use Rattle.kat_syntax.specs.TypingExpressions.{is_protected_kind}
 use Rattle.kat_claims.specs.Outside.{IsCodeCell, OutsideWritesKeep}
-use Rattle.kat_claims.proofs.OutsideCells.{IsOutsideAlone, alone_from, code_cell_stays, code_stays, every_there, lets_from, unprotected}
+use Rattle.kat_claims.proofs.OutsideCells.{IsOutsideAlone, alone_from, code_alone, code_there, unprotected}
 use Rattle.kat_claims.proofs.OutsidePhase.{same_phase}
-use Rattle.kat_claims.proofs.OutsideRegisters.{AreOthers, IsOutsideAt, means_first, outside_register, protected_differ}
+use Rattle.kat_claims.proofs.OutsideRegisters.{IsOutsideAt, means_first, not_both, same_register}
+use Rattle.kat_claims.proofs.OutsidePlaces.{IsPlaceOf, placed}
 
 -- what a target is of a typed specification: an outside register, or a cell of outside cells alone
 abbrev IsOutsideTarget : List DeclForm → Target → Type 0
-IsOutsideTarget decls (OneRegister at width) = IsOutsideAt decls at
+IsOutsideTarget decls (OneRegister at width) = IsOutsideAt (registers_of decls) at
 IsOutsideTarget decls (OneCell index width) = IsOutsideAlone index decls
 
 -- a place of cells, with an offset in it
@@ -41,45 +41,22 @@ within_place : (lo hi offset : ℕ) → nat_lt offset (hi - lo) ≡ true →
     (nat_le lo (lo + offset) && nat_lt (lo + offset) hi) ≡ true
 within_place lo hi offset less = grind (arith, nat_tests)
 
+-- the target in a place is such
 target_is :
-    (spec : Spec) → IsTyped spec → (n offset : ℕ) (place : OutsidePlace) (target : Target) →
-    slice_get (outside_places spec.decls) n ≡ Some place →
-    target_in spec.decls offset place ≡ Some target → IsOutsideTarget spec.decls target
-target_is spec typed n offset (OutsideRegister at width) target is given =
-    by (offset == 0) target given
-  where
-    by : (b : Bool) (t : Target) → (if b then Some (OneRegister at width) else None) ≡ Some t →
-        IsOutsideTarget spec.decls t
-    by false t e = absurd (cc)
-    by true t e =
-        let from = outside_register 0 spec.decls n at width is in
-        let same : from.further ≡ at = let further = from.is in omega (arith, further) in
-        let one : OneRegister at width ≡ t = cc in
-        subst (IsOutsideTarget spec.decls) one (subst (IsOutsideAt spec.decls) same from.there)
-target_is spec typed n offset (OutsideCells lo hi) target is given =
-    by (nat_lt offset (hi - lo)) refl target given
-  where
-    by : (b : Bool) → nat_lt offset (hi - lo) ≡ b → (t : Target) →
-        (if b then Some (OneCell (lo + offset) (cell_width spec.decls)) else None) ≡ Some t →
-        IsOutsideTarget spec.decls t
-    by false less t e = absurd (cc)
-    by true less t e =
-        let one : OneCell (lo + offset) (cell_width spec.decls) ≡ t = cc in
-        subst (IsOutsideTarget spec.decls) one
-        (alone_from (lo + offset) spec.decls 0 spec.decls refl typed
-        (lets_from (lo + offset) 0 spec.decls n lo hi is (within_place lo hi offset less)))
-
-target_found :
-    (spec : Spec) → IsTyped spec → (poke : Poke) (target : Target) →
-    target_of spec.decls poke ≡ Some target → IsOutsideTarget spec.decls target
-target_found spec typed poke target is =
-    by (slice_get (outside_places spec.decls) poke.ordinal) refl is
-  where
-    by : (o : Option OutsidePlace) → slice_get (outside_places spec.decls) poke.ordinal ≡ o →
-        option_and_then (target_in spec.decls poke.offset) o ≡ Some target →
-        IsOutsideTarget spec.decls target
-    by None place e = absurd (cc)
-    by (Some one) place e = target_is spec typed poke.ordinal poke.offset one target place e
+    (spec : Spec) → IsTyped spec → (offset : ℕ) (place : OutsidePlace) (target : Target) →
+    IsPlaceOf 0 spec.decls place → target_in spec.decls offset place ≡ Some target →
+    IsOutsideTarget spec.decls target
+target_is spec typed offset (OutsideRegister at width) target from given =
+    let same : from.further ≡ at = let further = from.is in omega (arith, further) in
+    subst (IsOutsideTarget spec.decls)
+    (cond_some (offset == 0) (OneRegister at width) target given).1
+    (subst (IsOutsideAt (registers_of spec.decls)) same from.there)
+target_is spec typed offset (OutsideCells lo hi) target lets given =
+    let parts = cond_some (nat_lt offset (hi - lo))
+    (OneCell (lo + offset) (cell_width spec.decls)) target given in
+    subst (IsOutsideTarget spec.decls) parts.1
+    (alone_from (lo + offset) spec.decls 0 spec.decls refl typed
+    (lets (lo + offset) (within_place lo hi offset parts.0)))
 
 -- the value of a register in two lists that have the same one at its position
 value_same :
@@ -94,20 +71,18 @@ value_same decls r ours theirs same = by (register_position decls r) refl
 
 -- two positions that are another
 apart : (at p : ℕ) → (at ≡ p → ⊥) → not (at == p) ≡ true
-apart at p other = by (at == p) refl
-  where
-    by : (b : Bool) → (at == p) ≡ b → not b ≡ true
-    by true e = absurd (other (eqb-true at p e))
-    by false e = refl
+apart at p other = not_from_false (at == p) (ne_eqb at p other)
 
--- the name at the position of a register
-name_at :
-    (decls : List DeclForm) (at : ℕ) (out : RegisterDecl) →
-    slice_get (registers_of decls) at ≡ Some out → get_or (register_names decls) at [] ≡ out.name
-name_at decls at out there =
-    get_or_from_slice_get (register_names decls) at out.name []
-    (slice_get-map (λ (register : RegisterDecl). register.name) (registers_of decls) at
-    ∙ ap (option_map (λ (register : RegisterDecl). register.name)) there)
+-- a register that stands at the position of a name has this name
+named :
+    (decls : List DeclForm) (r : Name) (p : ℕ) (out : IsOutsideAt (registers_of decls) p) →
+    register_position decls r ≡ Some p → r ≡ out.register.name
+named decls r p out is =
+    (bytes_eq-Decides r (get_or (register_names decls) p [])).0
+    (position-Some (bytes_eq r) (register_names decls) p [] is).1
+    ∙ get_or_from_slice_get (register_names decls) p out.register.name []
+    (slice_get-map (λ (register : RegisterDecl). register.name) (registers_of decls) p
+    ∙ ap (option_map (λ (register : RegisterDecl). register.name)) out.there)
 
 -- what is not changed of kept places
 places_same :
@@ -129,21 +104,15 @@ all_both P (x ∷ xs) ys first second = (first.0, all_both P xs ys first.1 secon
 -- the protected registers among some
 registers_kept :
     (P : KeptPlace → Type 0) (registers : List RegisterDecl) →
-    AllByRecursion
-    (λ (one : RegisterDecl). is_protected_kind one.kind ≡ true → P (KeptRegister one.name))
-    registers →
+    ((at : ℕ) (one : RegisterDecl) → slice_get registers at ≡ Some one →
+    is_protected_kind one.kind ≡ true → P (KeptRegister one.name)) →
     AllByRecursion P (filter_map kept_register registers)
 registers_kept P [] each = tt
 registers_kept P (one ∷ registers) each =
-    by (is_protected_kind one.kind) each.0 (registers_kept P registers each.1)
-  where
-    by : (b : Bool) → (b ≡ true → P (KeptRegister one.name)) →
-        AllByRecursion P (filter_map kept_register registers) →
-        AllByRecursion P
-        (cons_option (if b then Some (KeptRegister one.name) else None)
-        (filter_map kept_register registers))
-    by true here rest = (here refl, rest)
-    by false here rest = rest
+    let rest = registers_kept P registers (λ at. each (suc at)) in
+    cond_both (is_protected_kind one.kind) (Some (KeptRegister one.name)) None
+    (λ o. AllByRecursion P (cons_option o (filter_map kept_register registers)))
+    (λ here. (each 0 one refl here, rest)) (λ no. rest)
 
 -- the protected cells of a memory
 cells_kept :
@@ -153,155 +122,108 @@ cells_kept :
 cells_kept P decls None each = tt
 cells_kept P decls (Some memory) each = among (range_with_len memory.lo (memory.hi - memory.lo))
   where
-    one : (i : ℕ) (b : Bool) (rest : List ℕ) → (b ≡ true → P (KeptCell i)) →
-        AllByRecursion P (map KeptCell rest) →
-        AllByRecursion P (map KeptCell (if b then i ∷ rest else rest))
-    one i true rest here more = (here refl, more)
-    one i false rest here more = more
-
     among : (indices : List ℕ) →
         AllByRecursion P
         (map KeptCell (filter (λ i. list_any (protects i) (ranges_of decls)) indices))
     among [] = tt
     among (i ∷ indices) =
-        one i (list_any (protects i) (ranges_of decls))
-        (filter (λ j. list_any (protects j) (ranges_of decls)) indices) (each i) (among indices)
+        let later = filter (λ j. list_any (protects j) (ranges_of decls)) indices in
+        cond_both (list_any (protects i) (ranges_of decls)) (i ∷ later) later
+        (λ cells. AllByRecursion P (map KeptCell cells))
+        (λ here. (each i here, among indices)) (λ no. among indices)
 
-module _ (spec : Spec) (typed : IsTyped spec) (s t : MachineState) where
-  -- a register that the dispatch may read
-  read_same :
-      (target : Target) → IsOutsideTarget spec.decls target → ChangesOnePlace target s t →
-      (r : Name) (k : ℕ) →
-      is_of_kind (λ kind. not (is_outside_kind kind))
-      (meant a_register (record { decls = spec.decls; number = k }) r) ≡ true →
-      register_value spec.decls r t.registers ≡ register_value spec.decls r s.registers
-  read_same (OneCell index width) out changes r k plain =
-      value_same spec.decls r t.registers s.registers (λ p is. changes.other_registers p refl)
-  read_same (OneRegister at width) out changes r k plain =
-      value_same spec.decls r t.registers s.registers (λ p is.
-      changes.other_registers p (apart at p (λ same.
-      let first = position-Some (bytes_eq r) (register_names spec.decls) p [] is in
-      let there : slice_get (registers_of spec.decls) p ≡ Some out.register =
-      subst (λ q. slice_get (registers_of spec.decls) q ≡ Some out.register) same out.there in
-      let name : r ≡ out.register.name =
-      (bytes_eq-Decides r (get_or (register_names spec.decls) p [])).0 first.1
-      ∙ name_at spec.decls p out.register there in
-      let kind = means_first spec.decls 0 0 spec.decls r p out.register there name first.2 plain in
-      false≢true (ap not (sym out.outside) ∙ kind))))
+-- what an outside write does not change: what is no outside register, and no cell of outside cells
+-- alone
+record Stays (decls : List DeclForm) (s t : MachineState) : Type 0 where
+  registers :
+      (p : ℕ) → (IsOutsideAt (registers_of decls) p → ⊥) →
+      slice_get t.registers p ≡ slice_get s.registers p
+  cells : (i : ℕ) → (IsOutsideAlone i decls → ⊥) → cell_at t i ≡ cell_at s i
+
+-- a write changes no other place than that of its target
+others_stay :
+    (decls : List DeclForm) (target : Target) (s t : MachineState) →
+    IsOutsideTarget decls target → ChangesOnePlace target s t → Stays decls s t
+others_stay decls (OneRegister at width) s t out changes = record {
+  registers = λ p none. changes.other_registers p
+      (apart at p (λ same. none (subst (IsOutsideAt (registers_of decls)) same out)));
+  cells = λ i none. changes.other_cells i refl;
+}
+others_stay decls (OneCell index width) s t out changes = record {
+  registers = λ p none. changes.other_registers p refl;
+  cells = λ i none. changes.other_cells i
+      (apart index i (λ same. none (subst (λ j. IsOutsideAlone j decls) same out)));
+}
+
+module _ (spec : Spec) (typed : IsTyped spec) (s t : MachineState)
+    (stays : Stays spec.decls s t) where
+  abbrev decls : List DeclForm
+  decls = spec.decls
+
+  -- the dispatch reads no outside register
+  phase_same : phase_of decls t ≡ phase_of decls s
+  phase_same = same_phase decls t.registers s.registers (λ r k plain.
+      value_same decls r t.registers s.registers (λ p is. stays.registers p (λ out.
+      false≢true (ap not (sym out.outside)
+      ∙ means_first decls 0 0 decls r p out.register out.there (named decls r p out is)
+      (position-Some (bytes_eq r) (register_names decls) p [] is).2 plain)))) 0 decls typed
 
   -- a protected register
   protected_same :
-      (target : Target) → IsOutsideTarget spec.decls target → ChangesOnePlace target s t →
-      AllByRecursion
-      (λ (one : RegisterDecl). is_protected_kind one.kind ≡ true →
-      register_value spec.decls one.name t.registers
-      ≡ register_value spec.decls one.name s.registers)
-      (registers_of spec.decls)
-  protected_same (OneCell index width) out changes = every (registers_of spec.decls)
-    where
-      every : (registers : List RegisterDecl) →
-          AllByRecursion
-          (λ (one : RegisterDecl). is_protected_kind one.kind ≡ true →
-          register_value spec.decls one.name t.registers
-          ≡ register_value spec.decls one.name s.registers)
-          registers
-      every [] = tt
-      every (one ∷ registers) = (
-        λ protected. value_same spec.decls one.name t.registers s.registers
-            (λ p is. changes.other_registers p refl),
-        every registers,
-      )
-  protected_same (OneRegister at width) out changes =
-      every (registers_of spec.decls)
-      (protected_differ spec.decls 0 spec.decls at out.register typed out.there out.outside)
-    where
-      every : (registers : List RegisterDecl) → AreOthers out.register.name registers →
-          AllByRecursion
-          (λ (one : RegisterDecl). is_protected_kind one.kind ≡ true →
-          register_value spec.decls one.name t.registers
-          ≡ register_value spec.decls one.name s.registers)
-          registers
-      every [] others = tt
-      every (one ∷ registers) others = (
-        λ protected. value_same spec.decls one.name t.registers s.registers (λ p is.
-            changes.other_registers p (apart at p (λ same.
-            let first = position-Some (bytes_eq one.name) (register_names spec.decls) p [] is in
-            others.0 protected
-            ((bytes_eq-Decides one.name (get_or (register_names spec.decls) p [])).0 first.1
-            ∙ name_at spec.decls p out.register
-            (subst (λ q. slice_get (registers_of spec.decls) q ≡ Some out.register) same
-            out.there))))),
-        every registers others.1,
-      )
+      (at : ℕ) (one : RegisterDecl) → slice_get (registers_of decls) at ≡ Some one →
+      is_protected_kind one.kind ≡ true →
+      register_value decls one.name t.registers ≡ register_value decls one.name s.registers
+  protected_same at one there protected =
+      value_same decls one.name t.registers s.registers (λ p is. stays.registers p (λ out.
+      let same = same_register decls 0 decls at p one out.register typed there out.there
+      (named decls one.name p out is) in
+      not_both out.register.kind
+      (ap (λ (r : RegisterDecl). is_protected_kind r.kind) (sym same) ∙ protected) out.outside))
 
   -- a protected cell
-  cell_same :
-      (target : Target) → IsOutsideTarget spec.decls target → ChangesOnePlace target s t →
-      (i : ℕ) → list_any (protects i) (ranges_of spec.decls) ≡ true → cell_at t i ≡ cell_at s i
-  cell_same (OneRegister at width) out changes i protected = changes.other_cells i refl
-  cell_same (OneCell index width) out changes i protected =
-      changes.other_cells i (apart index i (λ same.
-      false≢true (sym (unprotected index spec.decls out)
-      ∙ ap (λ j. list_any (protects j) (ranges_of spec.decls)) same ∙ protected)))
+  cell_same : (i : ℕ) → list_any (protects i) (ranges_of decls) ≡ true → cell_at t i ≡ cell_at s i
+  cell_same i protected =
+      stays.cells i (λ alone. false≢true (sym (unprotected i decls alone) ∙ protected))
 
   -- all of it
-  kept_same :
-      (target : Target) → IsOutsideTarget spec.decls target → ChangesOnePlace target s t →
-      kept_of spec.decls t ≡ kept_of spec.decls s
-  kept_same target out changes =
-      places_same spec.decls t s (kept_places spec.decls)
-      (all_both (λ place. value_of_place spec.decls t place ≡ value_of_place spec.decls s place)
-      (filter_map kept_register (registers_of spec.decls))
-      (kept_cells spec.decls (memory_of spec.decls))
-      (registers_kept
-      (λ place. value_of_place spec.decls t place ≡ value_of_place spec.decls s place)
-      (registers_of spec.decls) (protected_same target out changes))
-      (cells_kept (λ place. value_of_place spec.decls t place ≡ value_of_place spec.decls s place)
-      spec.decls (memory_of spec.decls)
-      (λ i protected. ap (option_map (Number (cell_width spec.decls)))
-      (cell_same target out changes i protected))))
+  abbrev IsSame : KeptPlace → Type 0
+  IsSame place = value_of_place decls t place ≡ value_of_place decls s place
 
-  phase_same :
-      (target : Target) → IsOutsideTarget spec.decls target → ChangesOnePlace target s t →
-      phase_of spec.decls t ≡ phase_of spec.decls s
-  phase_same target out changes =
-      same_phase spec.decls t.registers s.registers (read_same target out changes) 0 spec.decls
-      typed
+  kept_same : kept_of decls t ≡ kept_of decls s
+  kept_same =
+      places_same decls t s (kept_places decls)
+      (all_both IsSame (filter_map kept_register (registers_of decls))
+      (kept_cells decls (memory_of decls))
+      (registers_kept IsSame (registers_of decls) protected_same)
+      (cells_kept IsSame decls (memory_of decls)
+      (λ i protected. ap (option_map (Number (cell_width decls))) (cell_same i protected))))
 
-  code_cell_same :
-      (target : Target) → IsOutsideTarget spec.decls target → ChangesOnePlace target s t →
-      (j : ℕ) → IsCodeCell spec.decls j → cell_at t j ≡ cell_at s j
-  code_cell_same (OneCell index width) out changes j is =
-      code_cell_stays index t s (λ j other. changes.other_cells j other) spec.decls out j is
-  code_cell_same (OneRegister at width) out changes j is = changes.other_cells j refl
-
-  code_same :
-      (target : Target) → IsOutsideTarget spec.decls target → ChangesOnePlace target s t →
-      (IsCodeThere spec.decls t → IsCodeThere spec.decls s)
-      × (IsCodeThere spec.decls s → IsCodeThere spec.decls t)
-  code_same (OneCell index width) out changes = (
-    code_stays index s t (λ j other. sym (changes.other_cells j other)) spec.decls out,
-    code_stays index t s (λ j other. changes.other_cells j other) spec.decls out,
-  )
-  code_same (OneRegister at width) out changes = (
-    every_there s t (λ j. sym (changes.other_cells j refl)) spec.decls,
-    every_there t s (λ j. changes.other_cells j refl) spec.decls,
-  )
+  -- a code cell
+  code_same : (i : ℕ) → IsCodeCell decls i → cell_at t i ≡ cell_at s i
+  code_same i is = stays.cells i (code_alone i decls is)
 
 -- what writes from outside keep
 pub outside_writes_keep : OutsideWritesChangeOnePlace → OutsideWritesKeep
 outside_writes_keep change = record {
   phase = λ spec poke before after typed wrote.
-      let one = change spec poke before after wrote in
-      phase_same spec typed before after one.0 (target_found spec typed poke one.0 one.1) one.2;
+      phase_same spec typed before after (stay spec poke before after typed wrote);
   kept = λ spec poke before after typed wrote.
-      let one = change spec poke before after wrote in
-      kept_same spec typed before after one.0 (target_found spec typed poke one.0 one.1) one.2;
-  code_cells = λ spec poke before after i typed wrote is.
-      let one = change spec poke before after wrote in
-      code_cell_same spec typed before after one.0 (target_found spec typed poke one.0 one.1) one.2
-      i is;
+      kept_same spec typed before after (stay spec poke before after typed wrote);
+  code_cells = λ spec poke before after i typed wrote.
+      code_same spec typed before after (stay spec poke before after typed wrote) i;
   code = λ spec poke before after typed wrote.
-      let one = change spec poke before after wrote in
-      code_same spec typed before after one.0 (target_found spec typed poke one.0 one.1) one.2;
+      let same = code_same spec typed before after (stay spec poke before after typed wrote) in (
+        code_there before after spec.decls (λ j is. sym (same j is)),
+        code_there after before spec.decls same,
+      );
 }
+  where
+    stay :
+        (spec : Spec) (poke : Poke) (before after : MachineState) → IsTyped spec →
+        poked spec poke before ≡ Wrote after → Stays spec.decls before after
+    stay spec poke before after typed wrote =
+        let one = change spec poke before after wrote in
+        others_stay spec.decls one.0 before after (option_and_then_some
+        (target_in spec.decls poke.offset) (slice_get (outside_places spec.decls) poke.ordinal)
+        one.0 one.1 (λ place there given. target_is spec typed poke.offset place one.0
+        (placed 0 spec.decls poke.ordinal place there) given)) one.2

@@ -1,96 +1,30 @@
 -- A register that may be written from outside is neither kept nor read by the dispatch.
 use Rattle.std.proofs.Common.{arith, ◌≡◌, ◌∙◌, ℕ, zero, suc, ◌+◌, ◌<◌, Bool, true, false, not, List, [], ◌∷◌, ◌++◌, get_or, slice_get, Option, Some, None, refl, sym, ap, subst, if◌then◌else◌}
 use Rattle.std.specs.Option.{option_or}
-use Rattle.std.specs.List.{AllByRecursion}
 use Rattle.std.specs.Str.{bytes_eq}
-use Rattle.std.proofs.lemmas.Bool.{and_parts, eqb-true, false≢true}
+use Rattle.std.proofs.lemmas.Bool.{and_parts, eqb-true, false_from_ne_true, false≢true}
+use Rattle.std.proofs.lemmas.Option.{same_Some}
 use Rattle.std.proofs.lemmas.Slice.Eq.{bytes_eq-Decides}
 use Rattle.kat_ast.specs.declared.type_name.Param.{Param}
 use Rattle.kat_ast.specs.declared.type_name.TypeName.{TypeName}
-use Rattle.kat_ast.specs.declared.decl.CellsKind.TheVariants as cells
 use Rattle.kat_ast.specs.declared.decl.DeclForm.{DeclForm}
 use Rattle.kat_ast.specs.declared.decl.DeclForm.TheVariants as d
 use Rattle.kat_ast.specs.declared.decl.RegisterKind.{RegisterKind}
 use Rattle.kat_ast.specs.declared.decl.RegisterKind.TheVariants as register
 use Rattle.kat_ast.specs.Types.{trees_of_param}
-use Rattle.kat_syntax.specs.declared.places.OutsidePlace.TheVariants.{Register as OutsideRegister}
 use Rattle.kat_syntax.specs.declared.type_rule.TypeRule.TheVariants.{NameTaken}
 use Rattle.kat_syntax.specs.Around.{RegisterSeen, a_register, first_named}
-use Rattle.kat_syntax.specs.Declares.{Declared, ctors_from, declared_by, declared_from, look_up, members_from, type_of_name}
-use Rattle.kat_syntax.specs.OutsideWrites.{outside_from}
+use Rattle.kat_syntax.specs.Declares.{Declared, ctors_from, declared_by, declared_from, declared_in, is_type_decl, look_up, members_from}
 use Rattle.kat_syntax.specs.Tables.{Name, RegisterDecl, register_names, registers_of}
 use Rattle.kat_syntax.specs.TypingDeclarations.{decl_faults, stands_at}
 use Rattle.kat_syntax.specs.TypingExpressions.{is_of_kind, is_outside_kind, is_protected_kind}
 use Rattle.kat_claims.proofs.Faultless.{AreClean, met, names_clean, no_first}
 
 -- the register at this position is outside
-pub record IsOutsideAt (decls : List DeclForm) (at : ℕ) : Type 0 where
+pub record IsOutsideAt (registers : List RegisterDecl) (at : ℕ) : Type 0 where
   pub register : RegisterDecl
-  pub there : slice_get (registers_of decls) at ≡ Some register
+  pub there : slice_get registers at ≡ Some register
   pub outside : is_outside_kind register.kind ≡ true
-
--- an outside place that is a register, counted from the first register
-pub record IsOutsideFrom (k : ℕ) (decls : List DeclForm) (at : ℕ) : Type 0 where
-  pub further : ℕ
-  pub is : at ≡ k + further
-  pub there : IsOutsideAt decls further
-
--- one register further
-one_more :
-    (k : ℕ) (x : Name) (type : TypeName) (kind : RegisterKind) (decls : List DeclForm) (at : ℕ) →
-    IsOutsideFrom (k + 1) decls at → IsOutsideFrom k (d.Register x type kind ∷ decls) at
-one_more k x type kind decls at from = record {
-  further = suc from.further;
-  is = let is = from.is in omega (arith, is);
-  there = record {
-    register = from.there.register;
-    there = from.there.there;
-    outside = from.there.outside;
-  };
-}
-
--- the same registers
-no_more :
-    (k : ℕ) (decls rest : List DeclForm) (at : ℕ) → registers_of decls ≡ registers_of rest →
-    IsOutsideFrom k rest at → IsOutsideFrom k decls at
-no_more k decls rest at same from = record {
-  further = from.further;
-  is = from.is;
-  there = record {
-    register = from.there.register;
-    there = ap (λ all. slice_get all from.further) same ∙ from.there.there;
-    outside = from.there.outside;
-  };
-}
-
-pub outside_register :
-    (k : ℕ) (decls : List DeclForm) (n at width : ℕ) →
-    slice_get (outside_from k decls) n ≡ Some (OutsideRegister at width) → IsOutsideFrom k decls at
-outside_register k [] n at width is = absurd (cc)
-outside_register k (d.Register x type register.Outside ∷ decls) zero at width is =
-    let same : k ≡ at = cc in
-    record {
-      further = 0;
-      is = omega (arith, same);
-      there = record {
-        register = record { name = x; type = type; kind = register.Outside };
-        there = refl;
-        outside = refl;
-      };
-    }
-outside_register k (d.Register x type register.Outside ∷ decls) (suc n) at width is =
-    one_more k x type register.Outside decls at (outside_register (k + 1) decls n at width is)
-outside_register k (d.Register x type register.Plain ∷ decls) n at width is =
-    one_more k x type register.Plain decls at (outside_register (k + 1) decls n at width is)
-outside_register k (d.Register x type register.Protected ∷ decls) n at width is =
-    one_more k x type register.Protected decls at (outside_register (k + 1) decls n at width is)
-outside_register k (d.Cells cells.Outside low high ∷ decls) zero at width is = absurd (cc)
-outside_register k (d.Cells cells.Outside low high ∷ decls) (suc n) at width is =
-    no_more k _ decls at refl (outside_register k decls n at width is)
-outside_register k (d.Cells cells.Protected low high ∷ decls) n at width is =
-    no_more k _ decls at refl (outside_register k decls n at width is)
-outside_register k (_ ∷ decls) n at width is =
-    no_more k _ decls at refl (outside_register k decls n at width is)
 
 -- one declared name stands at one declaration
 one_place :
@@ -110,80 +44,61 @@ declared_first all k x type kind clean =
     (no_first _ []
     (names_clean (record { decls = all; number = k }) (d.Register x type kind) clean))
 
--- registers of which none has this name
-abbrev HaveOthers : Name → List RegisterDecl → Type 0
-HaveOthers x registers =
-    AllByRecursion (λ (other : RegisterDecl). x ≡ other.name → ⊥) registers
+-- no later register has the name of one without faults
+later_other :
+    (all : List DeclForm) (x : Name) (k m : ℕ) (decls : List DeclForm) (at : ℕ)
+    (out : RegisterDecl) → k < m → stands_at k 2 (first_named (declared_by all) x) ≡ true →
+    AreClean all m decls → slice_get (registers_of decls) at ≡ Some out → x ≡ out.name → ⊥
+later_other all x k m [] at out less first clean there same = absurd (cc)
+later_other all x k m (d.Register y type kind ∷ decls) zero out less first clean there same =
+    let is : record { name = y; type = type; kind = kind } ≡ out = cc in
+    let here : stands_at m 2 (first_named (declared_by all) x) ≡ true =
+    subst (λ z. stands_at m 2 (first_named (declared_by all) z) ≡ true)
+    (ap (λ (one : RegisterDecl). one.name) is ∙ sym same)
+    (declared_first all m y type kind clean.0) in
+    let once = one_place (first_named (declared_by all) x) k m 2 first here in
+    omega (arith, once, less)
+later_other all x k m (d.Register y type kind ∷ decls) (suc at) out less first clean there same =
+    later_other all x k (m + 1) decls at out (omega (arith, less)) first clean.1 there same
+later_other all x k m (_ ∷ decls) at out less first clean there same =
+    later_other all x k (m + 1) decls at out (omega (arith, less)) first clean.1 there same
 
-others_differ :
-    (all : List DeclForm) (x : Name) (k m : ℕ) (decls : List DeclForm) → k < m →
-    stands_at k 2 (first_named (declared_by all) x) ≡ true → AreClean all m decls →
-    HaveOthers x (registers_of decls)
-others_differ all x k m [] less first clean = tt
-others_differ all x k m (d.Register y type kind ∷ decls) less first clean = (
-  λ e.
-      let here : stands_at m 2 (first_named (declared_by all) x) ≡ true =
-      subst (λ z. stands_at m 2 (first_named (declared_by all) z) ≡ true) (sym e)
-      (declared_first all m y type kind clean.0) in
-      let same = one_place (first_named (declared_by all) x) k m 2 first here in
-      omega (arith, same, less),
-  others_differ all x k (m + 1) decls (omega (arith, less)) first clean.1,
-)
-others_differ all x k m (_ ∷ decls) less first clean =
-    others_differ all x k (m + 1) decls (omega (arith, less)) first clean.1
+-- so registers of one name are one
+pub same_register :
+    (all : List DeclForm) (k : ℕ) (decls : List DeclForm) (p q : ℕ) (a b : RegisterDecl) →
+    AreClean all k decls → slice_get (registers_of decls) p ≡ Some a →
+    slice_get (registers_of decls) q ≡ Some b → a.name ≡ b.name → a ≡ b
+same_register all k [] p q a b clean first second same = absurd (cc)
+same_register all k (d.Register x type kind ∷ decls) p q a b clean first second same =
+    by p q first second (λ p q first second.
+    same_register all (k + 1) decls p q a b clean.1 first second same)
+  where
+    apart :
+        (one other : RegisterDecl) (at : ℕ) → Some (record { name = x; type = type; kind = kind })
+        ≡ Some one → slice_get (registers_of decls) at ≡ Some other → one.name ≡ other.name → ⊥
+    apart one other at is there e =
+        later_other all x k (k + 1) decls at other (omega arith)
+        (declared_first all k x type kind clean.0) clean.1 there
+        (ap (λ (r : RegisterDecl). r.name) (same_Some _ one is) ∙ e)
 
--- what has another name than all registers has another one than each
-other_at :
-    (x : Name) (registers : List RegisterDecl) (at : ℕ) (out : RegisterDecl) →
-    HaveOthers x registers → slice_get registers at ≡ Some out → x ≡ out.name → ⊥
-other_at x [] at out others there same = absurd (cc)
-other_at x (r ∷ registers) zero out others there same =
-    let is : r ≡ out = cc in others.0 (same ∙ ap (λ (one : RegisterDecl). one.name) (sym is))
-other_at x (r ∷ registers) (suc at) out others there same =
-    other_at x registers at out others.1 there same
+    by :
+        (p q : ℕ) → slice_get (registers_of (d.Register x type kind ∷ decls)) p ≡ Some a →
+        slice_get (registers_of (d.Register x type kind ∷ decls)) q ≡ Some b →
+        ((p q : ℕ) → slice_get (registers_of decls) p ≡ Some a →
+        slice_get (registers_of decls) q ≡ Some b → a ≡ b) → a ≡ b
+    by zero zero first second rest = cc
+    by zero (suc q) first second rest = absurd (apart a b q first second same)
+    by (suc p) zero first second rest = absurd (apart b a p second first (sym same))
+    by (suc p) (suc q) first second rest = rest p q first second
+same_register all k (_ ∷ decls) p q a b clean first second same =
+    same_register all (k + 1) decls p q a b clean.1 first second same
 
--- no protected register has the name of an outside one
-abbrev pub AreOthers : Name → List RegisterDecl → Type 0
-AreOthers x registers =
-    AllByRecursion
-    (λ (one : RegisterDecl). is_protected_kind one.kind ≡ true → one.name ≡ x → ⊥) registers
-
--- no register is both
-not_both :
+-- no register is both protected and outside
+pub not_both :
     (kind : RegisterKind) → is_protected_kind kind ≡ true → is_outside_kind kind ≡ true → ⊥
 not_both register.Plain protected outside = false≢true protected
 not_both register.Protected protected outside = false≢true outside
 not_both register.Outside protected outside = false≢true protected
-
--- others than one name, protected or not
-all_others :
-    (x : Name) (registers : List RegisterDecl) → HaveOthers x registers → AreOthers x registers
-all_others x [] others = tt
-all_others x (r ∷ registers) others =
-    (λ protected same. others.0 (sym same), all_others x registers others.1)
-
-pub protected_differ :
-    (all : List DeclForm) (k : ℕ) (decls : List DeclForm) (at : ℕ) (out : RegisterDecl) →
-    AreClean all k decls → slice_get (registers_of decls) at ≡ Some out →
-    is_outside_kind out.kind ≡ true → AreOthers out.name (registers_of decls)
-protected_differ all k [] at out clean there outside = tt
-protected_differ all k (d.Register x type kind ∷ decls) zero out clean there outside =
-    let is : record { name = x; type = type; kind = kind } ≡ out = cc in
-    let others = others_differ all x k (k + 1) decls (omega arith)
-    (declared_first all k x type kind clean.0) clean.1 in (
-      λ protected same. not_both kind protected
-          (ap (λ (one : RegisterDecl). is_outside_kind one.kind) is ∙ outside),
-      all_others out.name (registers_of decls)
-          (subst (λ (one : RegisterDecl). HaveOthers one.name (registers_of decls)) is others),
-    )
-protected_differ all k (d.Register x type kind ∷ decls) (suc at) out clean there outside =
-    let others = others_differ all x k (k + 1) decls (omega arith)
-    (declared_first all k x type kind clean.0) clean.1 in (
-      λ protected same. other_at x (registers_of decls) at out others there same,
-      protected_differ all (k + 1) decls at out clean.1 there outside,
-    )
-protected_differ all k (_ ∷ decls) at out clean there outside =
-    protected_differ all (k + 1) decls at out clean.1 there outside
 
 -- a name before other declared ones that is no register
 passed :
@@ -209,6 +124,24 @@ past_ctors all k p at (ctor ∷ ctors) more r =
     (look_up a_register (ctors_from all k p (at + trees_of_param ctor) ctors ++ more) r)
     ∙ past_ctors all k p (at + trees_of_param ctor) ctors more r
 
+-- nor is what another declaration than a register declares
+past :
+    (all : List DeclForm) (k p : ℕ) (decl : DeclForm) (more : List Declared) (r : Name) →
+    registers_of (decl ∷ []) ≡ [] →
+    look_up a_register (declared_in all k p decl ++ more) r ≡ look_up a_register more r
+past all k p (d.Register x type kind) more r none = absurd (cc)
+past all k p (d.Enum x members) more r none =
+    passed (bytes_eq x r) _ ∙ past_members k p 4 members more r
+past all k p (d.Union x ctors) more r none =
+    passed (bytes_eq x r) _ ∙ past_ctors all k p 4 ctors more r
+past all k p (d.Record x fields) more r none = passed (bytes_eq x r) _
+past all k p (d.Region x params i e) more r none = passed (bytes_eq x r) _
+past all k p (d.Predicate x ins outs body) more r none = passed (bytes_eq x r) _
+past all k p (d.Fun x params result body) more r none = passed (bytes_eq x r) _
+past all k p (d.Lemma x params ns pre post steps) more r none = passed (bytes_eq x r) _
+past all k p (d.Block block) more r none = passed (bytes_eq block.name r) _
+past all k p _ more r none = refl
+
 -- what the name of a register means is the first register of this name
 abbrev MeansFirst : List DeclForm → ℕ → ℕ → List DeclForm → Name → Type 0
 MeansFirst all k p decls r =
@@ -219,19 +152,11 @@ MeansFirst all k p decls r =
     (look_up a_register (declared_from all k p decls) r) ≡ true →
     not (is_outside_kind one.kind) ≡ true
 
+-- what is found is no outside register
 abbrev IsPlain : Option RegisterSeen → Type 0
 IsPlain seen = is_of_kind (λ kind. not (is_outside_kind kind)) seen ≡ true
 
--- a register where it is of the name wanted, or else what is found behind it
-abbrev chosen :
-    Bool → List DeclForm → ℕ → ℕ → TypeName → RegisterKind → List DeclForm → Name →
-    Option RegisterSeen
-chosen b all k p type kind decls r =
-    if b
-    then option_or (Some (record { kind = kind; type = type_of_name all k type }))
-    (look_up a_register (declared_from all (k + 1) p decls) r)
-    else look_up a_register (declared_from all (k + 1) p decls) r
-
+-- with one register before
 means_register :
     (all : List DeclForm) (k p : ℕ) (x : Name) (type : TypeName) (kind : RegisterKind)
     (decls : List DeclForm) (r : Name) → MeansFirst all (k + 1) p decls r →
@@ -241,23 +166,14 @@ means_register all k p x type kind decls r rest zero one there same before plain
     let here : bytes_eq x r ≡ true =
     (bytes_eq-Decides x r).1 (ap (λ (o : RegisterDecl). o.name) is ∙ sym same) in
     ap (λ (o : RegisterDecl). not (is_outside_kind o.kind)) (sym is)
-    ∙ subst (λ b. IsPlain (chosen b all k p type kind decls r)) here plain
+    ∙ (simp here at plain)
 means_register all k p x type kind decls r rest (suc q) one there same before plain =
-    rest q one there same (λ j less. before (suc j) (omega (arith, less)))
-    (subst (λ b. IsPlain (chosen b all k p type kind decls r)) (other (bytes_eq x r) refl) plain)
-  where
-    other : (b : Bool) → bytes_eq x r ≡ b → b ≡ false
-    other true e =
-        absurd (false≢true (sym (before 0 (omega arith))
-        ∙ (bytes_eq-Decides r x).1 (sym ((bytes_eq-Decides x r).0 e))))
-    other false e = refl
+    let other : bytes_eq x r ≡ false =
+    false_from_ne_true (bytes_eq x r) (λ e. false≢true (sym (before 0 (omega arith))
+    ∙ (bytes_eq-Decides r x).1 (sym ((bytes_eq-Decides x r).0 e)))) in
+    rest q one there same (λ j less. before (suc j) (omega (arith, less))) (simp other at plain)
 
--- one name that is no register before others
-past_one :
-    (x r : Name) (seen : Option RegisterSeen) →
-    IsPlain (if bytes_eq x r then option_or None seen else seen) → IsPlain seen
-past_one x r seen = subst IsPlain (passed (bytes_eq x r) seen)
-
+-- with any declarations
 pub means_first :
     (all : List DeclForm) (k p : ℕ) (decls : List DeclForm) (r : Name) →
     MeansFirst all k p decls r
@@ -265,25 +181,7 @@ means_first all k p [] r q one there same before plain = absurd (cc)
 means_first all k p (d.Register x type kind ∷ decls) r q one there same before plain =
     means_register all k p x type kind decls r (means_first all (k + 1) p decls r) q one there same
     before plain
-means_first all k p (d.Enum x members ∷ decls) r q one there same before plain =
-    means_first all (k + 1) (p + 1) decls r q one there same before
-    (subst IsPlain (past_members k p 4 members (declared_from all (k + 1) (p + 1) decls) r)
-    (past_one x r _ plain))
-means_first all k p (d.Union x ctors ∷ decls) r q one there same before plain =
-    means_first all (k + 1) (p + 1) decls r q one there same before
-    (subst IsPlain (past_ctors all k p 4 ctors (declared_from all (k + 1) (p + 1) decls) r)
-    (past_one x r _ plain))
-means_first all k p (d.Record x fields ∷ decls) r q one there same before plain =
-    means_first all (k + 1) (p + 1) decls r q one there same before (past_one x r _ plain)
-means_first all k p (d.Region x params i e ∷ decls) r q one there same before plain =
-    means_first all (k + 1) p decls r q one there same before (past_one x r _ plain)
-means_first all k p (d.Predicate x ins outs body ∷ decls) r q one there same before plain =
-    means_first all (k + 1) p decls r q one there same before (past_one x r _ plain)
-means_first all k p (d.Fun x params result body ∷ decls) r q one there same before plain =
-    means_first all (k + 1) p decls r q one there same before (past_one x r _ plain)
-means_first all k p (d.Lemma x params ns pre post steps ∷ decls) r q one there same before plain =
-    means_first all (k + 1) p decls r q one there same before (past_one x r _ plain)
-means_first all k p (d.Block block ∷ decls) r q one there same before plain =
-    means_first all (k + 1) p decls r q one there same before (past_one block.name r _ plain)
-means_first all k p (_ ∷ decls) r q one there same before plain =
-    means_first all (k + 1) p decls r q one there same before plain
+means_first all k p (decl ∷ decls) r q one there same before plain =
+    let further = if is_type_decl decl then p + 1 else p in
+    means_first all (k + 1) further decls r q one there same before
+    (subst IsPlain (past all k p decl (declared_from all (k + 1) further decls) r refl) plain)

@@ -3,7 +3,7 @@ use Rattle.std.proofs.Common.{◌≡◌, ◌∙◌, ℕ, Bool, true, List, [], �
 use Rattle.kat_value.specs.declared.types.Ty.{Ty}
 use Rattle.kat_value.specs.declared.types.Ty.TheVariants as ty
 use Rattle.kat_value.specs.declared.types.TypeDecl.{TypeDecl}
-use Rattle.kat_value.specs.declared.value.Value.{Value, fold-roll-Value}
+use Rattle.kat_value.specs.declared.value.Value.{Value, fold-roll-Value, map-Value, roll-Value}
 use Rattle.kat_value.specs.declared.value.Value.TheOpen as layer
 use Rattle.kat_value.specs.declared.value.Value.TheVariants as value
 use Rattle.kat_value.specs.declared.value.Value.TheVariants.{rolls-Bool}
@@ -31,7 +31,7 @@ use Rattle.kat_syntax.specs.Machine.{MachineState}
 use Rattle.kat_syntax.specs.Meaning.{Calls, Part, part_of, part_of_stm}
 use Rattle.kat_syntax.specs.Outcomes.{at_site, inside, place_in}
 use Rattle.kat_syntax.specs.Phases.{Boots, IsGuardedAt, IsWithoutAll, in_dispatch, phase_of, with_kept}
-use Rattle.kat_syntax.specs.Run.{Cycle, Ended, after_cycle, run_from, run_of, with_boundary}
+use Rattle.kat_syntax.specs.Run.{Cycle, Ended, run_of}
 use Rattle.kat_syntax.specs.States.{IsState, KeptPlace, KeptRegister, KeptCell, kept_places}
 use Rattle.kat_claims.specs.Machines.{block, machine_of, mode, state_of, when_block}
 use Rattle.kat_claims.proofs.Layers.{closed}
@@ -61,13 +61,19 @@ ends_as decls state left part =
 abbrev pub leaves : MachineState → ℕ → CycleOutcome
 leaves state left = Completed (record { state = state; left = left; stores = [] })
 
+-- whether a value is of a type goes by its layer
+pub typed_by_layer :
+    (types : List TypeDecl) (one : layer.Value-F Value) (x : Value) (t : Ty) → roll-Value one ≡ x →
+    has_type types x t ≡ layer_has_type types (map-Value Value (Ty → Bool) (has_type types) one) t
+typed_by_layer types one x t is =
+    ap (λ (v : Value). has_type types v t) (sym is)
+    ∙ ap (λ (test : Ty → Bool). test t)
+    (fold-roll-Value (Ty → Bool) (layer_has_type types) one)
+
 -- truths are of their type
 pub truth_has_type :
     (types : List TypeDecl) (b : Bool) → has_type types (value.Bool b) ty.Bool ≡ true
-truth_has_type types b =
-    ap (λ (v : Value). has_type types v ty.Bool) (sym (rolls-Bool b))
-    ∙ ap (λ (test : Ty → Bool). test ty.Bool)
-    (fold-roll-Value (Ty → Bool) (layer_has_type types) (layer.Bool b))
+truth_has_type types b = typed_by_layer types (layer.Bool b) _ ty.Bool (rolls-Bool b)
 
 -- the fragment of no place has no kept place
 without_all :
@@ -113,21 +119,9 @@ module _ (kind : RegisterKind) (cases : List When) (otherwise : Phase) (change :
     });
   }
 
--- a run over one cycle that is completed
-pub one_cycle :
-    (spec : Spec) (s t : MachineState) → cycle_of spec 1 s ≡ leaves t 0 →
-    run_of spec 1 s (Cycle ∷ []) ≡ record { boundaries = s ∷ t ∷ []; end = Ended }
-one_cycle spec s t first =
-    ap (λ (c : CycleOutcome). with_boundary s (after_cycle 1 c
-    (λ next. run_from spec 1 1 next []))) first
-
--- a run over two
+-- a run over two cycles that are completed
 pub two_cycles :
     (spec : Spec) (s t u : MachineState) → cycle_of spec 1 s ≡ leaves t 0 →
     cycle_of spec 1 t ≡ leaves u 0 →
     run_of spec 1 s (Cycle ∷ Cycle ∷ []) ≡ record { boundaries = s ∷ t ∷ u ∷ []; end = Ended }
-two_cycles spec s t u first second =
-    ap (λ (c : CycleOutcome). with_boundary s (after_cycle 1 c
-    (λ next. run_from spec 1 1 next (Cycle ∷ [])))) first
-    ∙ ap (λ (c : CycleOutcome). with_boundary s (with_boundary t (after_cycle 2 c
-    (λ next. run_from spec 1 2 next [])))) second
+two_cycles spec s t u first second = simp (first, second)
