@@ -49,8 +49,8 @@ fn made(alloc: Global, ctor: u32, payload: Value) -> Result<Value, AllocError> {
     })
 }
 
-/// A value of each kind, with its text.
-fn values(alloc: Global) -> Result<Vec<(Value, &'static str)>, AllocError> {
+/// A value of each kind that has no declared type, with its text.
+fn plain_values(alloc: Global) -> Result<Vec<(Value, &'static str)>, AllocError> {
     let mut values = Vec::new(alloc);
     values.push((Value::Unit, "unit"))?;
     values.push((Value::Bool(true), "true"))?;
@@ -58,6 +58,12 @@ fn values(alloc: Global) -> Result<Vec<(Value, &'static str)>, AllocError> {
     values.push((bits(1, 1), "0x1"))?;
     values.push((bits(13, 171), "0x00ab"))?;
     values.push((bits(64, 18_446_744_073_709_551_615), "0xffffffffffffffff"))?;
+    Ok(values)
+}
+
+/// A value of each kind of declared type, with its text.
+fn declared_values(alloc: Global) -> Result<Vec<(Value, &'static str)>, AllocError> {
+    let mut values = Vec::new(alloc);
     values.push((Value::Member { of: 0, index: 1 }, "User"))?;
     values.push((pair(alloc, 0, 4_095)?, "(P Kernel 0xfff)"))?;
     values.push((made(alloc, 0, Value::Unit)?, "(N unit)"))?;
@@ -79,10 +85,10 @@ fn are_printed(
     Ok(true)
 }
 
-/// Whether a value of each kind has its text.
-fn prints_values(alloc: Global) -> Result<bool, AllocError> {
+/// Whether each of these values has its text, of the machine with declared types.
+fn prints_values(alloc: Global, values: &[(Value, &'static str)]) -> Result<bool, AllocError> {
     match machine_of(alloc, TYPES) {
-        Some(machine) => are_printed(alloc, &machine, values(alloc)?.as_slice()),
+        Some(machine) => are_printed(alloc, &machine, values),
         None => Ok(false),
     }
 }
@@ -95,21 +101,30 @@ fn is_moded(alloc: Global, text: &str) -> bool {
     }
 }
 
-/// Whether the first fault of modes of a typed specification is this name in this declaration.
-fn is_unbound(alloc: Global, text: &str, number: u32, word: &str) -> bool {
-    let Some(machine) = machine_of(alloc, text) else {
-        return false;
-    };
+/// Whether the first fault of modes of a machine is this name in this declaration.
+fn leaves_unbound(alloc: Global, machine: Checked, number: u32, word: &str) -> bool {
     match check_modes(alloc, machine) {
         Err(ModeError::Unbound { decl, name }) => decl == number && name.as_str() == word,
         _ => false,
     }
 }
 
+/// Whether the first fault of modes of the machine of a text is this name in this declaration.
+fn is_unbound(alloc: Global, text: &str, number: u32, word: &str) -> bool {
+    match machine_of(alloc, text) {
+        Some(machine) => leaves_unbound(alloc, machine, number, word),
+        None => false,
+    }
+}
+
 #[test]
 fn values_are_printed(rt: HostRuntime) -> Result<(), Fail> {
-    let prints = prints_values(rt.alloc())?;
-    assert!(rt; prints);
+    let plain = plain_values(rt.alloc())?;
+    let prints_plain = prints_values(rt.alloc(), plain.as_slice())?;
+    assert!(rt; prints_plain);
+    let declared = declared_values(rt.alloc())?;
+    let prints_declared = prints_values(rt.alloc(), declared.as_slice())?;
+    assert!(rt; prints_declared);
     Ok(())
 }
 

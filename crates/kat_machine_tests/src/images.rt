@@ -107,25 +107,42 @@ fn prints(alloc: Global, machine: &Checked, image: &[u8], text: &str) -> Result<
     }
 }
 
+/// Whether an image of a machine is printed so, and what is printed again.
+fn prints_twice(
+    alloc: Global,
+    machine: &Checked,
+    image: &str,
+    text: &str,
+) -> Result<bool, AllocError>
+    requires { IsMachine machine.now }
+{
+    Ok(
+        prints(alloc, machine, image.as_bytes(), text)?
+            && prints(alloc, machine, text.as_bytes(), text)?,
+    )
+}
+
 /// Whether an image of the machine of a text is printed so, and what is printed again.
 fn agrees(alloc: Global, spec: &str, image: &str, text: &str) -> Result<bool, AllocError> {
     match machine_of(alloc, spec) {
-        Some(machine) => Ok(
-            prints(alloc, &machine, image.as_bytes(), text)?
-                && prints(alloc, &machine, text.as_bytes(), text)?,
-        ),
+        Some(machine) => prints_twice(alloc, &machine, image, text),
         None => Ok(false),
+    }
+}
+
+/// Whether these bytes are no image of a machine, for the line of this number.
+fn refuses(alloc: Global, machine: &Checked, image: &[u8], line: u64) -> bool {
+    match read_image(alloc, image, machine) {
+        Err(ImageError::Line(number)) => number == line,
+        _ => false,
     }
 }
 
 /// Whether these bytes are no image of the machine of a text, for the line of this number.
 fn is_refused(alloc: Global, spec: &str, image: &[u8], line: u64) -> bool {
-    let Some(machine) = machine_of(alloc, spec) else {
-        return false;
-    };
-    match read_image(alloc, image, &machine) {
-        Err(ImageError::Line(number)) => number == line,
-        _ => false,
+    match machine_of(alloc, spec) {
+        Some(machine) => refuses(alloc, &machine, image, line),
+        None => false,
     }
 }
 
