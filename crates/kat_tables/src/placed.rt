@@ -101,6 +101,34 @@ impl<'a> PlacedNames<'a> {
         }
     }
 
+    /// What a name is. It is looked for first at the index `near`, which becomes the one behind it:
+    /// names that are asked in the order in which they were added are found there, in memory that
+    /// lies in a row.
+    pub fn get_near(&self, near: &mut usize, name: &str) -> Option<Placed>
+        ensures { result ≡ found_in self.now name.now }
+    {
+        match self.names.get_index(*near) {
+            Some((key, one)) if *key == name => {
+                *near = near.saturating_add(1);
+                Some(with_meaning(self.meanings.as_slice(), one))
+            }
+            _ => self.get_behind(near, name),
+        }
+    }
+
+    /// What a name is, with the index behind it where it is there.
+    fn get_behind(&self, near: &mut usize, name: &str) -> Option<Placed>
+        ensures { result ≡ found_in self.now name.now }
+    {
+        match self.names.get_full(name) {
+            Some((index, _, one)) => {
+                *near = index.saturating_add(1);
+                Some(with_meaning(self.meanings.as_slice(), one))
+            }
+            None => None,
+        }
+    }
+
     /// What a name is.
     pub fn get(&self, name: &str) -> Option<Placed>
         ensures { result ≡ found_in self.now name.now }
