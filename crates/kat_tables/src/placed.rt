@@ -13,8 +13,8 @@ use std::marker::Model;
 
 /// Names, each with its place and its meaning. An entry has 12 bytes beside the name: the place and
 /// the number of the meaning in a list, since on a text of many names the time goes into memory
-/// traffic. Names in a row that mean the same, as the members of an enum do, share one meaning.
-/// Contracts see each name with what it is.
+/// traffic. Names in a row that are seen to mean the same, as the members of an enum, share one
+/// meaning. Contracts see each name with what it is.
 #[derive(Drop)]
 pub struct PlacedNames<'a> {
     names: IndexMap<&'a str, Kept>,
@@ -187,7 +187,7 @@ fn is_same(one: &Meaning, other: &Meaning) -> bool
     }
 }
 
-/// Whether two constructors are of one union, and have payloads of one type.
+/// Whether two constructors are seen to be of one union, and to have payloads of one type.
 fn is_same_ctor(one: &CtorSeen, other: &CtorSeen) -> bool
     ensures { IsTrue result → one.now ≡ other.now }
 {
