@@ -111,7 +111,7 @@ pub data AllEnd (answers : Answers) (decls : List DeclForm) (mode : Mode) : Walk
       ((k : ℕ) (next : Walk) → slice_get options k ≡ Some (Goes next) →
       AllEnd answers decls mode next) → AllEnd answers decls mode w
 
--- where every path of a walk ends, its jobs are met at each fragment that it stands for
+-- where every path of a walk ends or closes, its jobs are met at each fragment that it stands for
 abbrev pub PathsAreMet : Type 0
 PathsAreMet =
     StepsAreMet → WalksStay → (answers : Answers) → AreSound answers → (spec : Spec) →

@@ -70,11 +70,12 @@ things_of_chosen (OnlyIn phase) = []
 things_of_chosen (BehindUntrusted first) = first
 things_of_chosen (BehindCycle block before left) = before
 
--- what a job holds
+-- what may be there
 abbrev pub things_of_option : {T : Type 0} → Option T → List T
 things_of_option None = []
 things_of_option (Some t) = t ∷ []
 
+-- what a job holds
 abbrev pub things_of_job : {T : Type 0} → Job T → List T
 things_of_job (Run stm) = []
 things_of_job (Produce reading assertion) = things_of_reading reading

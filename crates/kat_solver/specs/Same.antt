@@ -1,4 +1,4 @@
--- Formulas that are those of a world.
+-- Formulas that are those of a world, or with which it begins.
 use Rattle.std.specs.Prelude.{◌≡◌, List, take, length}
 use Rattle.kat_value.specs.declared.types.Ty.{Ty}
 use Rattle.kat_term.specs.declared.term.Term.{Term}

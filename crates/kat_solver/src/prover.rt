@@ -11,8 +11,8 @@ use std::alloc::{AllocError, Global};
 use std::mem::replace;
 
 /// A prover by rules alone. It settles the formulas of a world, and asks of what is settled again
-/// where the next question is asked in an equal world. Where the next world begins with the same
-/// formulas, settling goes on from them.
+/// where the next question is asked in an equal world. Where the next world is over variables of
+/// the same types and begins with the same formulas, settling goes on from them.
 #[derive(Drop)]
 pub struct RuleProver {
     alloc: Global,

@@ -95,13 +95,14 @@ impl<'t, 'd> Around<'t, 'd> {
         tables.kinds.place(name).is_some()
     }
 
-    /// Whether the first declared of this name stands in this declaration, at this tree.
-    pub fn declares_first(&self, tree: u32, name: &Text) -> bool
+    /// Whether the first declared of this name stands in this declaration, at this tree. The names of
+    /// a declaration are asked in their order, each with the `near` of the one before.
+    pub fn declares_first(&self, near: &mut usize, tree: u32, name: &Text) -> bool
         ensures { let first = first_named (declared_by self.now.decls) name.now in
             result ≡ stands_at self.now.number tree first }
     {
         let tables = self.tables;
-        match tables.kinds.place(name) {
+        match tables.kinds.place_near(near, name) {
             Some(stand) => stand.decl == self.number && stand.tree == tree,
             None => false,
         }

@@ -107,6 +107,16 @@ impl<'a> Kinds<'a> {
         }
     }
 
+    /// The first place of a name, which is looked for near an index of the names in their order.
+    pub fn place_near(&self, near: &mut usize, name: &Text) -> Option<Stand>
+        ensures { result ≡ place_of self.now name.now }
+    {
+        match self.names.get_near(near, name.as_str()) {
+            Some(one) => Some(one.at),
+            None => None,
+        }
+    }
+
     /// The enum of a member.
     pub fn member(&self, name: &Text) -> Option<u32>
         ensures { result ≡ option_and_then member_of (found self.now name.now) }

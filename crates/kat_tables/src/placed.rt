@@ -13,8 +13,8 @@ use std::marker::Model;
 
 /// Names, each with its place and its meaning. An entry has 12 bytes beside the name: the place and
 /// the number of the meaning in a list, since on a text of many names the time goes into memory
-/// traffic. Names in a row that mean the same, as the members of an enum do, share one meaning.
-/// Contracts see each name with what it is.
+/// traffic. Names in a row that are seen to mean the same, as the members of an enum, share one
+/// meaning. Contracts see each name with what it is.
 #[derive(Drop)]
 pub struct PlacedNames<'a> {
     names: IndexMap<&'a str, Kept>,
@@ -101,6 +101,34 @@ impl<'a> PlacedNames<'a> {
         }
     }
 
+    /// What a name is. It is looked for first at the index `near`, which becomes the one behind it:
+    /// names that are asked in the order in which they were added are found there, in memory that
+    /// lies in a row.
+    pub fn get_near(&self, near: &mut usize, name: &str) -> Option<Placed>
+        ensures { result ≡ found_in self.now name.now }
+    {
+        match self.names.get_index(*near) {
+            Some((key, one)) if *key == name => {
+                *near = near.saturating_add(1);
+                Some(with_meaning(self.meanings.as_slice(), one))
+            }
+            _ => self.get_behind(near, name),
+        }
+    }
+
+    /// What a name is, with the index behind it where it is there.
+    fn get_behind(&self, near: &mut usize, name: &str) -> Option<Placed>
+        ensures { result ≡ found_in self.now name.now }
+    {
+        match self.names.get_full(name) {
+            Some((index, _, one)) => {
+                *near = index.saturating_add(1);
+                Some(with_meaning(self.meanings.as_slice(), one))
+            }
+            None => None,
+        }
+    }
+
     /// What a name is.
     pub fn get(&self, name: &str) -> Option<Placed>
         ensures { result ≡ found_in self.now name.now }
@@ -159,7 +187,7 @@ fn is_same(one: &Meaning, other: &Meaning) -> bool
     }
 }
 
-/// Whether two constructors are of one union, and have payloads of one type.
+/// Whether two constructors are seen to be of one union, and to have payloads of one type.
 fn is_same_ctor(one: &CtorSeen, other: &CtorSeen) -> bool
     ensures { IsTrue result → one.now ≡ other.now }
 {

@@ -38,59 +38,75 @@ fn judge_each_name(around: &Around<'_, '_>, decl: &DeclForm, faults: &mut Faults
     ensures { faults.new ≡ least_with faults.old
         (taken_names around.now (own_names around.now decl.now)) }
 {
+    // Where the names before were found, so that each is looked for next to them.
+    let mut near = 0;
     match decl {
         DeclForm::Enum { name, members } => {
-            judge_own(around, 2, name, faults);
-            judge_members(around, members, faults);
+            judge_own(around, &mut near, 2, name, faults);
+            judge_members(around, &mut near, members, faults);
         }
         DeclForm::Union { name, ctors } => {
-            judge_own(around, 2, name, faults);
-            judge_ctor_names(around, ctors, faults);
+            judge_own(around, &mut near, 2, name, faults);
+            judge_ctor_names(around, &mut near, ctors, faults);
         }
         DeclForm::Record { name, .. }
         | DeclForm::Register { name, .. }
         | DeclForm::Region { name, .. }
         | DeclForm::Predicate { name, .. }
         | DeclForm::Fun { name, .. }
-        | DeclForm::Lemma { name, .. } => judge_own(around, 2, name, faults),
-        DeclForm::Block(block) => judge_own(around, 2, &block.name, faults),
+        | DeclForm::Lemma { name, .. } => judge_own(around, &mut near, 2, name, faults),
+        DeclForm::Block(block) => judge_own(around, &mut near, 2, &block.name, faults),
         _ => {}
     }
 }
 
 /// Notes the fault of a name that a declaration declares at this tree, where an earlier one stands.
-fn judge_own(around: &Around<'_, '_>, tree: u32, name: &Text, faults: &mut Faults)
+fn judge_own(around: &Around<'_, '_>, near: &mut usize, tree: u32, name: &Text, faults: &mut Faults)
     ensures { let first = first_named (declared_by around.now.decls) name.now in
         faults.new ≡ least_with faults.old
         (unless (stands_at around.now.number tree first) tree NameTaken) }
 {
-    faults.unless(around.declares_first(tree, name), tree, TypeRule::NameTaken);
+    faults.unless(
+        around.declares_first(near, tree, name),
+        tree,
+        TypeRule::NameTaken,
+    );
 }
 
 /// The members of an enum.
 #[tactic(auto, using(crate::proofs::Noting::least_both))]
-fn judge_members(around: &Around<'_, '_>, members: &Items<Text>, faults: &mut Faults)
+fn judge_members(
+    around: &Around<'_, '_>,
+    near: &mut usize,
+    members: &Items<Text>,
+    faults: &mut Faults,
+)
     requires { 4 + length members.now < 2 ^ 32 }
     ensures { faults.new ≡ least_with faults.old
         (taken_names around.now (members_from around.now.number 0 4 members.now)) }
 {
     let mut tree: u32 = 4;
     for member in members.as_slice() {
-        judge_own(around, tree, member, faults);
+        judge_own(around, near, tree, member, faults);
         tree += 1;
     }
 }
 
 /// The names of constructors.
 #[tactic(auto, using(crate::proofs::Noting::least_both))]
-fn judge_ctor_names(around: &Around<'_, '_>, ctors: &Items<Param>, faults: &mut Faults)
+fn judge_ctor_names(
+    around: &Around<'_, '_>,
+    near: &mut usize,
+    ctors: &Items<Param>,
+    faults: &mut Faults,
+)
     requires { 3 + trees_of_params ctors.now < 2 ^ 32 }
     ensures { faults.new ≡ least_with faults.old (taken_names around.now
         (ctors_from around.now.decls around.now.number 0 4 ctors.now)) }
 {
     let mut at: u32 = 4;
     for ctor in ctors.as_slice() {
-        judge_own(around, at + 1, &ctor.name, faults);
+        judge_own(around, near, at + 1, &ctor.name, faults);
         at += 2 + count_type(&ctor.ty);
     }
 }

@@ -12,7 +12,7 @@ returns-then-stand-self c =
     let here : (c.in-Some.stand.decl == c.self.inside.number) ≡ true = grind (arith, nat_tests) in
     ap (λ b. b && (c.in-Some.stand.tree == c.args.tree)) (sym here)
     ∙ stands_as_found (declared_by c.tables.inside.decls.now) x c.self.inside.number c.args.tree _
-    (sym c.in-Some.is ∙ c.place.ensures ∙ c.tables.invariant.kinds_are.places x)
+    (sym c.in-Some.is ∙ c.place_near.ensures ∙ c.tables.invariant.kinds_are.places x)
     ∙ ap (λ ds. stands_at c.self.inside.number c.args.tree (first_named (declared_by ds) x))
     c.tables.view_is
     ∙ ap (λ a. stands_at a.number c.args.tree (first_named (declared_by a.decls) x))
@@ -24,7 +24,7 @@ returns-else-stand-self c =
     let other : (c.in-Some.stand.decl == c.self.inside.number) ≡ false = grind (arith, nat_tests) in
     other ∙ ap (λ b. b && (c.in-Some.stand.tree == c.args.tree)) (sym other)
     ∙ stands_as_found (declared_by c.tables.inside.decls.now) x c.self.inside.number c.args.tree _
-    (sym c.in-Some.is ∙ c.place.ensures ∙ c.tables.invariant.kinds_are.places x)
+    (sym c.in-Some.is ∙ c.place_near.ensures ∙ c.tables.invariant.kinds_are.places x)
     ∙ ap (λ ds. stands_at c.self.inside.number c.args.tree (first_named (declared_by ds) x))
     c.tables.view_is
     ∙ ap (λ a. stands_at a.number c.args.tree (first_named (declared_by a.decls) x))
@@ -34,7 +34,7 @@ pub returns-in-None : goal.returns-in-None
 returns-in-None c =
     let x = c.args.name.now in
     stands_as_found (declared_by c.tables.inside.decls.now) x c.self.inside.number c.args.tree _
-    (sym c.in-None.is ∙ c.place.ensures ∙ c.tables.invariant.kinds_are.places x)
+    (sym c.in-None.is ∙ c.place_near.ensures ∙ c.tables.invariant.kinds_are.places x)
     ∙ ap (λ ds. stands_at c.self.inside.number c.args.tree (first_named (declared_by ds) x))
     c.tables.view_is
     ∙ ap (λ a. stands_at a.number c.args.tree (first_named (declared_by a.decls) x))
