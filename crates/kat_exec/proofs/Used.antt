@@ -101,6 +101,8 @@ lemmas = record {
       (ByItself [] (out-roll-Stm (stm.Lemma l [])))));
   by_contract = by_contract;
   in_place = λ m uses. uses;
+  behind = λ block. inl (_, refl, ByItself [] (out-roll-Stm (stm.Lemma l [])));
+  none_behind = λ block uses. none_of uses;
 }
   where
     no_other :
@@ -116,6 +118,10 @@ lemmas = record {
     by_contract m (inr (inl uses)) = of_call m (by_layer _ m _ uses)
     by_contract m (inr (inr uses)) = uses
 
+    none_of : ⊥ ⊎ ⊥ → ⊥
+    none_of (inl uses) = uses
+    none_of (inr uses) = uses
+
 -- one layer of an expression reads the registers that its parts read
 reading_layer :
     (layer : expr.Expr-F Expr) →
@@ -129,6 +135,7 @@ are_read = simp (reading_layer)
 pub registers_read : RegistersAreRead
 registers_read = record {
   are_read = are_read;
+  in_parts = simp (reading_layer);
   are_there = λ v.
       subst (AllByRecursion (HasRegister machine (one_register 0 v))) (sym are_read)
       ((0, refl, refl), tt);

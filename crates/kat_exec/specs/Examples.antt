@@ -6,6 +6,7 @@ use Rattle.kat_value.specs.declared.value.Value.{Value}
 use Rattle.kat_ast.specs.declared.assertion.Assertion.{Assertion}
 use Rattle.kat_ast.specs.declared.assertion.Assertion.TheOpen as assertion
 use Rattle.kat_ast.specs.declared.assertion.Assertion.TheViews.{roll-Assertion}
+use Rattle.kat_ast.specs.declared.decl.Block.{Block}
 use Rattle.kat_ast.specs.declared.decl.DeclForm.{DeclForm}
 use Rattle.kat_ast.specs.declared.decl.DeclForm.TheVariants as d
 use Rattle.kat_ast.specs.declared.decl.Phase.TheVariants as phase
@@ -32,7 +33,7 @@ use Rattle.kat_chunk.specs.declared.chunk.Chunk.TheVariants as chunk
 use Rattle.kat_heap.specs.declared.mode.Mode.TheVariants.{ByContract, Inline}
 use Rattle.kat_heap.specs.Asking.{Answers}
 use Rattle.kat_heap.specs.Met.{Carries, HasRegisters, registers_of_expr}
-use Rattle.kat_heap.specs.Walks.{Bind, Bound, Consume, Fresh, Havoc, Match, Owe, Produce, Return, Run, Yield, OfCall, OfContract, OfScope, Plain, Job, Names, Choose, Limit, On, Owed, Goes, Pruned, Walk, Closed, Decide, OnlyIn}
+use Rattle.kat_heap.specs.Walks.{Bind, Bound, Consume, Fresh, Havoc, Match, Owe, Produce, Return, Run, Yield, OfCall, OfContract, OfScope, Plain, Job, Names, Choose, Limit, On, Owed, Goes, Pruned, Walk, Closed, Decide, BehindCycle, OnlyIn}
 use Rattle.kat_exec.specs.Items.{OfFunction, start_of}
 use Rattle.kat_exec.specs.Lemmas.{JobsUse}
 use Rattle.kat_exec.specs.Outcome.{Asks, Ends, NoOption, Owes, outcome_in}
@@ -406,8 +407,17 @@ sayer = d.Fun g [] type.Unit says ∷ []
 abbrev pub asks_it : Stm
 asks_it = roll-Stm (stm.Call g [])
 
+-- declarations whose step function is that function, and a job behind a cycle of a block that may
+-- have so many more
+abbrev pub stepper : List DeclForm
+stepper = d.Step g ∷ sayer
+
+abbrev pub behind_cycle : Block → ℕ → Job Term
+behind_cycle block left = Decide [] phase.Inside (BehindCycle block [] left)
+
 -- lemmas that are used: by a proof statement, by one that stands in a statement, and none beside
--- it; by the body of a function, but not where it has a contract; and none in place
+-- it; by the body of a function, but not where it has a contract; none in place; and by the step
+-- function behind a cycle of a block, where one more may follow
 pub record LemmasComeOut : Type 0 where
   pub said : JobsUse machine l ByContract (Owe unit ∷ Run says ∷ [])
   pub in_part : JobsUse machine l ByContract (Owe unit ∷ Run then_says ∷ [])
@@ -419,10 +429,20 @@ pub record LemmasComeOut : Type 0 where
       JobsUse (d.Contract g [] anything o anything ∷ sayer) m ByContract
       (Owe unit ∷ Run asks_it ∷ []) → ⊥
   pub in_place : (m : Name) → JobsUse sayer m Inline (Owe unit ∷ Run asks_it ∷ []) → ⊥
+  pub behind : (block : Block) → JobsUse stepper l ByContract (behind_cycle block 1 ∷ [])
+  pub none_behind : (block : Block) → JobsUse stepper l ByContract (behind_cycle block 0 ∷ []) → ⊥
 
--- the registers that a condition of the dispatch reads: a fragment has them, and another has not
+-- `(make x (get x x (rec x (reg r) (reg o))))`
+abbrev pub nested : Expr
+nested =
+    roll-Expr (expr.Make x (roll-Expr (expr.Get x x
+    (roll-Expr (expr.Rec x (roll-Expr (expr.Register r) ∷ roll-Expr (expr.Register o) ∷ []))))))
+
+-- the registers that a condition of the dispatch reads, in its parts too: a fragment has them, and
+-- another has not
 pub record RegistersAreRead : Type 0 where
   pub are_read : registers_of_expr at_zero ≡ r ∷ []
+  pub in_parts : registers_of_expr nested ≡ r ∷ o ∷ []
   pub are_there : (v : Value) → HasRegisters machine (one_register 0 v) at_zero
   pub are_not_there : (v : Value) → HasRegisters machine (one_register 1 v) at_zero → ⊥
 

@@ -12,9 +12,9 @@ pub fn examples_come_out()
     terms_by_parts();
 }
 
-/// Where every path of a walk ends, contracts are met with fewer calls and the lemmas that its jobs
-/// use hold, its jobs are met at each fragment that it stands for: it follows from the two laws of
-/// one step that its statement names.
+/// Where every path of a walk ends or closes, contracts are met with fewer calls and the lemmas
+/// that its jobs use hold, its jobs are met at each fragment that it stands for: it follows from the
+/// two laws of one step that its statement names.
 pub fn paths_are_met()
     ensures { PathsAreMet }
 {}
